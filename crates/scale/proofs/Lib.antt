@@ -1,0 +1,4 @@
+pub mod Bytes
+pub mod Readings
+pub mod MinutesLaws
+pub mod ClashesLaws

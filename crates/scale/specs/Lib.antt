@@ -1,0 +1,6 @@
+pub mod Operations
+pub mod Coding
+pub mod Bytes
+pub mod MinutesModel
+pub mod ClashesModel
+pub mod Edges

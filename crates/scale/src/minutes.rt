@@ -1,0 +1,11 @@
+// Minutes of rethreading.
+ghost use Prim.Native.Nat.{ℕ, _≤_};
+
+// 0 to 1,000,000,000 minutes; the last is never.
+#[derive(Clone, Copy, PartialEq, Eq, Debug)]
+pub struct Minutes {
+    value: u32,
+    ghost ok: { value ≤ 1000000000 },
+}
+
+pub mod operations;
