@@ -11,24 +11,29 @@ use lib.Dec.{ltb}
 use lib.ListN.{length, getD, set}
 use Rattle.std.specs.Iters.{counting}
 use Rattle.std.proofs.shelf.Bits.{mul-le}
-use Rattle.std.proofs.shelf.Lists.{getD-default, getD-past, set-past}
+use Rattle.std.proofs.shelf.Lists.{getD-default, set-past}
+use Rattle.std.proofs.shelf.Tests.{cond-true, cond-false, lt-ltb, le-ltb}
 use Rattle.problem.specs.declared.job.Job.{Job}
 use Rattle.problem.specs.declared.plan.Plan.{Plan}
 use Rattle.problem.specs.Lists.{every}
 use Rattle.problem.specs.Plans.{setup, setups, named, name, is-setup, product}
 
+pub setup-within : (q : Plan) (k : ℕ) → k < 8 → setup q (suc k) ≡ getD (q .setups) k 255
+setup-within q k lt = cond-true _ _ _ (lt-ltb k 8 lt)
+
+-- a number that is no head has no setup
+pub setup-none : (q : Plan) (h : ℕ) → (h < 1) ⊎ ((1 ≤ h) × (8 < h)) → setup q h ≡ 255
+setup-none q zero o = refl
+setup-none q (suc k) (inl lt) = absurd (omega arith)
+setup-none q (suc k) (inr gt) = cond-false _ _ _ (le-ltb k 8 (omega (arith, gt .1)))
+
 module _ (q : Plan) (long : length (q .setups) ≡ 8) where
   pub setup-read : (h : ℕ) → 1 ≤ h → h ≤ 8 → setup q h ≡ getD (q .setups) (h - 1) 0
   setup-read zero a b = absurd (omega arith)
-  setup-read (suc k) a b = let e : suc k - 1 ≡ k = omega arith in rw e (getD-default (q .setups) k 255 0 (omega arith))
+  setup-read (suc k) a b = let e : suc k - 1 ≡ k = omega arith in rw e (setup-within q k (omega arith) ∙ getD-default (q .setups) k 255 0 (omega arith))
 
   pub setup-at : (k : ℕ) → k < 8 → setup q (1 + k) ≡ getD (q .setups) k 0
   setup-at k lt = let e : 1 + k - 1 ≡ k = omega arith in setup-read (1 + k) (omega arith) (omega arith) ∙ ap (λ (i : ℕ). getD (q .setups) i 0) e
-
-  pub setup-none : (h : ℕ) → (h < 1) ⊎ ((1 ≤ h) × (8 < h)) → setup q h ≡ 255
-  setup-none zero o = refl
-  setup-none (suc k) (inl lt) = absurd (omega arith)
-  setup-none (suc k) (inr gt) = getD-past (q .setups) k 255 (omega (arith, gt .1))
 
   pub name-none : (h i : ℕ) → (h < 1) ⊎ ((1 ≤ h) × (8 < h)) → q ≡ name q h i
   name-none zero i o = refl

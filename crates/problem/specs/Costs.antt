@@ -1,7 +1,8 @@
 -- What plans cost: a table of costs for each pair of heads, and joins over it. Assumes nothing.
-use mathlib.Core.Bool.{Bool, cond, not, _&&_}
+use mathlib.Core.Path.{_≡_}
+use mathlib.Core.Bool.{Bool, true, cond, not, _&&_}
 use mathlib.Core.List.{List, [], _∷_}
-use Prim.Native.Nat.{ℕ, _+_, _-_, _*_, _/_}
+use Prim.Native.Nat.{ℕ, _+_, _-_, _*_, _/_, _<_, _≤_}
 use lib.Dec.{leb, ltb}
 use lib.ListN.{length, getD}
 use Rattle.std.specs.Iters.{counting}
@@ -78,6 +79,22 @@ module _ {S : Type 0} (s : Operations S) where
       -- the least, over the setups of head u, of the joined costs against the heads that q names
       abbrev pub bound : ℕ → Plan → S
       bound u q = least (λ i. against u i q) (counting 0 (setups j u))
+
+-- What the code asks before it reads costs: all of them are there, and the plan names only heads and setups of the job.
+pub record Readable {S : Type 0} (j : Job) (costs : List S) (q : Plan) : Type 0 where
+  pub room : 1792 ≤ length costs
+  pub of-job : is-of-job j q ≡ true
+
+-- the same of one head h with setup i against the heads from a up to, and without, z: h is none of those that q names
+pub record Comparable {S : Type 0} (costs : List S) (q : Plan) (h i a z : ℕ) : Type 0 where
+  pub room : 1792 ≤ length costs
+  pub few : (g : ℕ) → named q g ≡ true → setup q g < 8
+  pub head-from : 1 ≤ h
+  pub head-to : h ≤ 8
+  pub setup-fits : i < 8
+  pub from : 1 ≤ a
+  pub to : z ≤ 9
+  pub apart : (g : ℕ) → a ≤ g → g < z → named q g ≡ true → h ≡ g → ⊥
 
 -- a question about a plan's costs, answered where there are 1,792 costs and the question makes sense
 abbrev pub priced : {S : Type 0} → List S → Bool → S → Result S Refusal

@@ -57,7 +57,7 @@ empty = record { setups = replicate 8 255 }
 
 abbrev pub setup : Plan → ℕ → ℕ
 setup q zero = 255
-setup q (suc k) = getD (q .setups) k 255
+setup q (suc k) = cond (ltb k 8) (getD (q .setups) k 255) 255
 
 abbrev pub named : Plan → ℕ → Bool
 named q h = ltb (setup q h) 255

@@ -2,4 +2,6 @@
 pub mod job;
 pub mod place;
 pub mod plan;
+pub mod price;
 pub mod refusal;
+pub mod theorems;

@@ -10,7 +10,7 @@ use Rattle.problem.proofs.Readings.{setup-read, setup-none}
 use Rattle.problem.proofs.plan.Plan.setup.Needs as need
 
 pub returns-then-head-lt1 : need.returns-then-head-lt1
-returns-then-head-lt1 c = sym (ap (λ (i : ℕ). cond (ltb i 255) (Some i) None) (setup-none (c .args .self .now) (search needs) (c .args .head) (c .then-head-lt1 .either)))
+returns-then-head-lt1 c = sym (ap (λ (i : ℕ). cond (ltb i 255) (Some i) None) (setup-none (c .args .self .now) (c .args .head) (c .then-head-lt1 .either)))
 
 pub returns-then-setup-lt-NONE : need.returns-then-setup-lt-NONE
 returns-then-setup-lt-NONE c = rw (setup-read (c .args .self .now) (search needs) (c .args .head) (omega arith) (omega arith), lt-ltb _ _ (c .if-setup-lt-NONE .taken))
