@@ -1,6 +1,7 @@
 pub mod Bags
 pub mod Counts
 pub mod Joins
+pub mod Lists
 pub mod Naming
 pub mod Pruning
 pub mod Readings
