@@ -3,6 +3,7 @@ pub mod Counts
 pub mod Joins
 pub mod Lists
 pub mod Naming
+pub mod Places
 pub mod Pruning
 pub mod Readings
 pub mod Walks

@@ -1,2 +1,4 @@
 pub mod Digits
 pub mod Entries
+pub mod Lines
+pub mod Shapes

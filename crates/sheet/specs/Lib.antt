@@ -4,3 +4,4 @@ pub mod Breaches
 pub mod Frames
 pub mod Tables
 pub mod Steps
+pub mod Sheets

@@ -19,6 +19,7 @@ use Rattle.sheet.specs.declared.frame.Kind.the-variants.{Opening, Head, Table,
 use Rattle.sheet.specs.declared.progress.Stage.{Stage}
 use Rattle.sheet.specs.declared.progress.Stage.the-variants.{Start, Heads, Tables, Ended}
 use Rattle.sheet.specs.declared.progress.Progress.{Progress}
+use Rattle.sheet.specs.declared.step.Shape.{Shape}
 use Rattle.sheet.specs.Lines.{is-line}
 use Rattle.sheet.specs.Frames.{Said, opening, head, table, end, misshapen, unknown, kind, frame-of}
 use Rattle.sheet.specs.Tables.{entry, first-unlawful, table-laid}
@@ -88,6 +89,10 @@ module _ {S : Type 0} (c : Coding S) where
 
   abbrev pub table-fits : Progress → ℕ → ℕ → List ℕ → Bool
   table-fits s a b ds = (is-pair a b && leb b (s .heads)) && eqb (length ds) (2 * c .width * (setups-of s b * setups-of s a))
+
+  -- the shape of a table that fits
+  abbrev pub shape : Progress → ℕ → ℕ → List ℕ → Option Shape
+  shape s a b ds = cond (table-fits s a b ds) (Some (record { pair = pair a b; rows = setups-of s a; columns = setups-of s b })) None
 
   -- a table of the right length: the first for its pair, and every entry lawful
   abbrev pub table-read : Progress → ℕ → ℕ → List ℕ → Result Progress Breach

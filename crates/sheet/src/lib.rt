@@ -5,3 +5,5 @@ pub mod frame;
 pub mod hex;
 pub mod line;
 pub mod progress;
+pub mod read;
+pub mod step;
