@@ -6,21 +6,25 @@ use mathlib.Core.List.{List, [], _∷_}
 use Prim.Native.Nat.{ℕ, zero, suc, _+_, _-_, _*_, _<_, _≤_}
 use native.Mathlib.Omega.{arith}
 use lib.Dec.{eqb, leb, ltb}
-use lib.ListN.{length, getD, set}
-use Rattle.std.proofs.shelf.Lists.{getD-set-same, getD-set-other, nil-from-length}
-use Rattle.std.proofs.shelf.Tests.{cases-bool, cases-eq, cases-lt, and-parts, cond-true, cond-false, eqb-true, leb-true, ltb-true, lt-ltb, le-ltb}
+use lib.ListN.{length, getD, set, take}
+use Rattle.std.proofs.shelf.Lists.{getD-set-same, getD-set-other, getD-take, length-take-le, nil-from-length}
+use Rattle.std.proofs.shelf.Tests.{false≢true, cases-bool, cases-eq, cases-lt, and-from, and-parts, cond-true, cond-false, eqb-true, leb-true, ltb-true, lt-ltb, le-ltb, le-leb}
 use Rattle.std.specs.declared.option.Option.{Option}
 use Rattle.std.specs.declared.option.Option.the-variants.{Some, None}
 use Rattle.scale.specs.Coding.{Coding}
 use Rattle.problem.specs.Costs.{pair, is-pair}
+use Rattle.problem.specs.Plans.{are-counts}
+use Rattle.problem.proofs.Lists.{every-at-places}
 use Rattle.problem.proofs.Places.{pair-within}
 use Rattle.sheet.specs.declared.progress.Progress.{Progress}
-use Rattle.sheet.specs.declared.progress.Stage.the-variants.{Heads, Tables}
+use Rattle.sheet.specs.declared.progress.Stage.{Stage}
+use Rattle.sheet.specs.declared.progress.Stage.the-variants.{Start, Heads, Tables, Ended}
 use Rattle.sheet.specs.declared.step.Shape.{Shape}
 use Rattle.std.specs.declared.result.Result.the-variants.{Ok}
 use Rattle.sheet.specs.Frames.{table}
 use Rattle.sheet.specs.Tables.{entry, first-unlawful, put, row-laid, table-laid}
 use Rattle.sheet.specs.Steps.{setups-of, table-fits, shape, stage-after, headed, tabled, entries-judged, frame-read, Staged, Sound}
+use Rattle.sheet.specs.Sheets.{is-ended}
 
 pub setups-few : (s : Progress) → Sound s → (h : ℕ) → setups-of s h ≤ 8
 setups-few s sound h = elim (cases-lt (h - 1) (s .known)) [
@@ -107,3 +111,20 @@ module _ {S : Type 0} where
   pub laid-somewhere : (e : ℕ → Option S) (columns p n : ℕ) (xs : List S) → (length xs ≡ 0) ⊎ (1792 ≤ length xs) → length xs < 1792 → xs ≡ table-laid e columns p n xs
   laid-somewhere e columns p n xs (inl none) lt = let is = nil-from-length xs none in rw is (sym (table-empty e columns p n))
   laid-somewhere e columns p n xs (inr all) lt = absurd (omega arith)
+
+-- a sheet that was read to its end has a job
+ended-staged : (stage : Stage) (heads known : ℕ) → is-ended stage ≡ true → Staged stage heads known → (known ≡ heads) × (1 ≤ heads)
+ended-staged Start heads known e h = absurd (false≢true e)
+ended-staged Heads heads known e h = absurd (false≢true e)
+ended-staged Tables heads known e h = absurd (false≢true e)
+ended-staged Ended heads known e h = h
+
+pub counts-lawful : (s : Progress) → Sound s → is-ended (s .stage) ≡ true → length (s .setups) ≡ 8 → are-counts (take (s .heads) (s .setups)) ≡ true
+counts-lawful s sound e room =
+    let staged = ended-staged (s .stage) (s .heads) (s .known) e (sound .staged) in
+    let long : length (take (s .heads) (s .setups)) ≡ s .heads = length-take-le (s .heads) (s .setups) (omega (arith, sound .few)) in
+    and-from _ _ (rw long (and-from (leb 1 (s .heads)) (leb (s .heads) 8) (le-leb _ _ (omega arith)) (le-leb _ _ (sound .few))))
+      (every-at-places (λ d. leb 1 d && leb d 8) (take (s .heads) (s .setups)) 0 (λ k lt.
+        let same : getD (take (s .heads) (s .setups)) k 0 ≡ getD (s .setups) k 0 = getD-take (s .heads) (s .setups) k 0 (omega arith) in
+        let each = sound .each k (omega arith) in
+        rw same (and-from _ _ (le-leb _ _ (each .0)) (le-leb _ _ (each .1)))))
