@@ -90,3 +90,18 @@ module _ {S : Type 0} (c : Coding S) (n : ℕ) (s : Progress) (bs : List ℕ) (n
 
   pub laid-whole : (xs : List S) → lines-laid c s (lines bs) xs ≡ xs
   laid-whole xs = ap (λ (ys : List ℕ). lines-laid c s (lines ys) xs) (nil-from-length bs none)
+
+-- what was read to its end has ended
+module _ {S : Type 0} (c : Coding S) where
+  at-end : (n : ℕ) (s p : Progress) → lines-read c n s [] ≡ Ok p → is-ended (p .stage) ≡ true
+  at-end n s p e = elim (cases-bool (is-ended (s .stage))) [
+      inl y ↦ let same : Ok s ≡ Ok p = sym (cond-true _ _ _ y) ∙ e in let is : s ≡ p = cc in ap (λ (q : Progress). is-ended (q .stage)) (sym is) ∙ y
+    | inr n′ ↦ absurd (let z : Err (refused-at n NotDue) ≡ Ok p = sym (cond-false _ _ _ n′) ∙ e in let o : _≡_ {A = ℕ} 0 1 = cc in omega arith) ]
+
+  pub read-ends : (n : ℕ) (s p : Progress) (ls : List (List ℕ)) → lines-read c n s ls ≡ Ok p → is-ended (p .stage) ≡ true
+  read-ends n s p [] e = at-end n s p e
+  read-ends n s p (l ∷ ls) e = on-line (line-read c s l) (λ t. read-ends (n + 1) t p ls) e
+    where
+      on-line : (r : Result Progress Breach) → ((t : Progress) → lines-read c (n + 1) t ls ≡ Ok p → is-ended (p .stage) ≡ true) → onward n (λ t. lines-read c (n + 1) t ls) r ≡ Ok p → is-ended (p .stage) ≡ true
+      on-line (Ok t) h f = h t f
+      on-line (Err b) h f = absurd (let o : _≡_ {A = ℕ} 0 1 = cc in omega arith)

@@ -5,3 +5,5 @@ pub mod Frames
 pub mod Tables
 pub mod Steps
 pub mod Sheets
+pub mod Judgements
+pub mod Openings

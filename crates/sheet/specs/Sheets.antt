@@ -62,3 +62,14 @@ module _ {S : Type 0} (c : Coding S) where
 pub record Tells (s : Progress) (told : Contents) : Type 0 where
   pub job : Job-of (take (s .heads) (s .setups)) (told .job)
   pub tables : told .tables ≡ s .tables
+
+-- What reading a sheet answers and leaves, by the bytes of the sheet and what the lent memory held before: four cases, in the
+-- order in which they are asked. A refusal leaves the memory as it was. A granted read puts nothing in the first 1,792 places and
+-- then each entry in its place; what lies past those places stays.
+module _ {S : Type 0} (s : Operations S) (c : Coding S) (sheet : List ℕ) (before : List S) where
+  pub data Reads : Result Contents SheetRefusal → List S → Type 0 where
+    too-little : {r : Result Contents SheetRefusal} {after : List S} → length before < 1792 → r ≡ Err (refused-at 0 TooLittle) → after ≡ before → Reads r after
+    too-long : {r : Result Contents SheetRefusal} {after : List S} → 1792 ≤ length before → 24000 < length sheet → r ≡ Err (refused-at 0 TooLong) → after ≡ before → Reads r after
+    refused : {r : Result Contents SheetRefusal} {after : List S} (e : SheetRefusal) → 1792 ≤ length before → length sheet ≤ 24000 → sheet-read c sheet ≡ Err e → r ≡ Err e → after ≡ before → Reads r after
+    granted : {r : Result Contents SheetRefusal} {after : List S} (p : Progress) (told : Contents) → 1792 ≤ length before → length sheet ≤ 24000 → sheet-read c sheet ≡ Ok p → Tells p told → r ≡ Ok told →
+        after ≡ sheet-laid c sheet (replicate 1792 (s .nothing)) ++ drop 1792 before → Reads r after

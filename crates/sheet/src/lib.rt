@@ -4,6 +4,7 @@ pub mod entry;
 pub mod frame;
 pub mod hex;
 pub mod line;
+pub mod opening;
 pub mod progress;
 pub mod read;
 pub mod step;

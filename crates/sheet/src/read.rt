@@ -5,8 +5,10 @@ ghost use mathlib.Core.Logic.{_⊎_};
 ghost use Prim.Native.Nat.{_≤_};
 ghost use lib.ListN.{length, replicate};
 ghost use Rattle.std.specs.Vec.{made};
+ghost use Rattle.sheet.specs.Judgements.{Judged};
+ghost use Rattle.sheet.specs.Openings.{has-table-for};
 ghost use Rattle.sheet.specs.Steps.{Sound};
-ghost use Rattle.sheet.specs.Sheets.{sheet-read, sheet-laid, is-ended, Tells};
+ghost use Rattle.sheet.specs.Sheets.{sheet-read, sheet-laid, is-ended, Tells, Reads};
 use crate::breach::Breach;
 use crate::breach::SheetRefusal;
 use crate::line::first_length;
@@ -15,6 +17,7 @@ use crate::progress::Stage;
 use crate::step::after_line;
 use problem::job::Job;
 use problem::place::PLACES;
+use problem::place::pair;
 use scale::scale::Scale;
 
 // the most bytes of a sheet
@@ -25,6 +28,18 @@ const MOST_BYTES: usize = 24_000;
 pub struct Contents {
     pub job: Job,
     pub tables: [bool; 28],
+}
+
+impl Contents {
+    // Whether the sheet had a table for the heads a and b; it had none where they are no pair of heads a < b.
+    pub fn has_table(&self, a: u8, b: u8) -> bool
+        ensures { λ r. ⌜ r ≡ has-table-for (now (self .entry)) a b ⌝ }
+    {
+        match pair(a, b) {
+            Some(p) => self.tables[p],
+            None => false,
+        }
+    }
 }
 
 fn has_ended(stage: Stage) -> bool
@@ -83,4 +98,35 @@ fn told(progress: Progress) -> Contents
         Ok(job) => Contents { job, tables: progress.tables },
         Err(_) => unreachable(),
     }
+}
+
+// Reads a sheet and lays its costs out, each in its place and nothing where no table has an entry.
+fn read_exactly<S: Scale>(sheet: &[u8], costs: &mut [S]) -> Result<Contents, SheetRefusal>
+    ensures { λ r. ⌜ Reads (S·Scale .scale) (S·Scale .coding) (now (sheet .entry)) (now (costs .entry)) r (now (costs .exit)) ⌝ }
+{
+    if costs.len() < PLACES {
+        return Err(SheetRefusal { line: 0, breach: Breach::TooLittle });
+    }
+    if sheet.len() > MOST_BYTES {
+        return Err(SheetRefusal { line: 0, breach: Breach::TooLong });
+    }
+    // a first pass into no memory finds every refusal, so that a refused sheet leaves all costs as they were
+    let progress = match scan(sheet, &mut costs[0..0]) {
+        Ok(progress) => progress,
+        Err(refusal) => return Err(refusal),
+    };
+    let places = &mut costs[0..PLACES];
+    clear(places);
+    let _ = scan(sheet, places);
+    Ok(told(progress))
+}
+
+// Reads a sheet into `costs`: each entry goes to its place, and nothing to every other of the 1,792 places; what lies past them
+// stays. Refused are fewer than 1,792 places and more than 24,000 bytes, both at line 0, and then the first line that breaks a
+// rule, by the first rule that it breaks; a refusal leaves all costs as they were.
+pub fn read<S: Scale>(sheet: &[u8], costs: &mut [S]) -> Result<Contents, SheetRefusal>
+    ensures exact { λ r. ⌜ Reads (S·Scale .scale) (S·Scale .coding) (now (sheet .entry)) (now (costs .entry)) r (now (costs .exit)) ⌝ }
+    ensures judged { λ r. ⌜ Judged (S·Scale .coding) (now (sheet .entry)) (length (now (costs .entry))) r ⌝ }
+{
+    read_exactly(sheet, costs)
 }
