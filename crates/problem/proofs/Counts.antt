@@ -47,5 +47,6 @@ module _ (ds xs : List ℕ) (m : ℕ) (e : every in-range ds ≡ true) (is : xs 
 
   pub each-few : (k : ℕ) → getD xs k 0 ≤ 8
   each-few k = elim (cases-lt k (length ds)) [
-      inl lt ↦ omega (arith, at-front k lt, in-range-each ds e k lt .1)
-    | inr le ↦ omega (arith, rest-none k le) ]
+    | inl lt ↦ omega (arith, at-front k lt, in-range-each ds e k lt .1)
+    | inr le ↦ omega (arith, rest-none k le)
+  ]

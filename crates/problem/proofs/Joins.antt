@@ -90,13 +90,15 @@ module _ {S : Type 0} {s : Operations S} (laws : Laws s) where
 
   lesser-left : (x y : S) → AtMost s (lesser s x y) x
   lesser-left x y = elim (cases-bool (s .leq x y)) [
-      inl e ↦ rw e (at-most-itself x)
-    | inr e ↦ rw e (laws .total x y e) ]
+    | inl e ↦ rw e (at-most-itself x)
+    | inr e ↦ rw e (laws .total x y e)
+  ]
 
   lesser-right : (x y : S) → AtMost s (lesser s x y) y
   lesser-right x y = elim (cases-bool (s .leq x y)) [
-      inl e ↦ rw e e
-    | inr e ↦ rw e (at-most-itself y) ]
+    | inl e ↦ rw e e
+    | inr e ↦ rw e (at-most-itself y)
+  ]
 
   pub lesser-greatest : (w x y : S) → AtMost s w x → AtMost s w y → AtMost s w (lesser s x y)
   lesser-greatest w x y h k = elim (cases-bool (s .leq x y)) [ inl e ↦ rw e h | inr e ↦ rw e k ]
@@ -112,8 +114,9 @@ module _ {S : Type 0} {s : Operations S} (laws : Laws s) where
 
   pub lesser-never-left : (x : S) → lesser s s.never x ≡ x
   lesser-never-left x = elim (cases-bool (s .leq s.never x)) [
-      inl e ↦ cond-true _ _ _ e ∙ laws .antisymmetric _ _ e (laws .greatest x)
-    | inr e ↦ cond-false _ _ _ e ]
+    | inl e ↦ cond-true _ _ _ e ∙ laws .antisymmetric _ _ e (laws .greatest x)
+    | inr e ↦ cond-false _ _ _ e
+  ]
 
   pub lesser-never-right : (x : S) → lesser s x s.never ≡ x
   lesser-never-right x = cond-true _ _ _ (laws .greatest x)

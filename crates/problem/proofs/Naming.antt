@@ -43,8 +43,9 @@ module _ {X : Type 0} where
   all-those P p (x ∷ xs) h =
       let rest : All P (those p xs) = all-those P p xs (h .1) in
       elim (cases-bool (p x)) [
-        inl e ↦ rw (those-passes p x xs e) (h .0 e, rest)
-      | inr e ↦ rw (those-fails p x xs e) rest ]
+        | inl e ↦ rw (those-passes p x xs e) (h .0 e, rest)
+        | inr e ↦ rw (those-fails p x xs e) rest
+      ]
 
   -- all members pass; two tests agree on all members
   pub those-all : (p : X → Bool) (xs : List X) → All (λ x. p x ≡ true) xs → those p xs ≡ xs
@@ -56,8 +57,9 @@ module _ {X : Type 0} where
   those-like p r (x ∷ xs) h =
       let rest : those p xs ≡ those r xs = those-like p r xs (h .1) in
       elim (cases-bool (r x)) [
-        inl e ↦ rw (those-passes p x xs (h .0 ∙ e), those-passes r x xs e, rest)
-      | inr e ↦ rw (those-fails p x xs (h .0 ∙ e), those-fails r x xs e, rest) ]
+        | inl e ↦ rw (those-passes p x xs (h .0 ∙ e), those-passes r x xs e, rest)
+        | inr e ↦ rw (those-fails p x xs (h .0 ∙ e), those-fails r x xs e, rest)
+      ]
 
   -- two tests that agree on all members but m, which passes the first only
   pub out-those : (p r : X → Bool) {m : X} {xs ys : List X} → Out m xs ys → p m ≡ true → r m ≡ false → All (λ x. p x ≡ r x) ys → Out m (those p xs) (those r xs)
@@ -65,15 +67,17 @@ module _ {X : Type 0} where
   out-those p r {m} (there {x = x} {xs = xs} o) e f h =
       let rest : Out m (those p xs) (those r xs) = out-those p r o e f (h .1) in
       elim (cases-bool (r x)) [
-        inl g ↦ rw (those-passes p x xs (h .0 ∙ g), those-passes r x xs g) (there rest)
-      | inr g ↦ rw (those-fails p x xs (h .0 ∙ g), those-fails r x xs g) rest ]
+        | inl g ↦ rw (those-passes p x xs (h .0 ∙ g), those-passes r x xs g) (there rest)
+        | inr g ↦ rw (those-fails p x xs (h .0 ∙ g), those-fails r x xs g) rest
+      ]
 
   -- a list is its members that fail a test and those that pass it
   pub same-parts : (p : X → Bool) (xs : List X) → Same xs (those (λ x. not (p x)) xs ++ those p xs)
   same-parts p [] = unfold those in none
   same-parts p (x ∷ xs) = elim (cases-bool (p x)) [
-      inl e ↦ rw (those-passes p x xs e, those-fails (λ y. not (p y)) x xs (not-from-true (p x) e)) (one (out-middle _ _) (same-parts p xs))
-    | inr e ↦ rw (those-fails p x xs e, those-passes (λ y. not (p y)) x xs (not-from-false (p x) e)) (one here (same-parts p xs)) ]
+    | inl e ↦ rw (those-passes p x xs e, those-fails (λ y. not (p y)) x xs (not-from-true (p x) e)) (one (out-middle _ _) (same-parts p xs))
+    | inr e ↦ rw (those-fails p x xs e, those-passes (λ y. not (p y)) x xs (not-from-false (p x) e)) (one here (same-parts p xs))
+  ]
 
 pub all-counting : (P : ℕ → Type 0) (a n : ℕ) → ((k : ℕ) → a ≤ k → k < a + n → P k) → All P (counting a n)
 all-counting P a zero f = tt
@@ -83,8 +87,9 @@ all-counting P a (suc n) f = (f a (omega arith) (omega arith), all-counting P (a
 pub out-counting : (a n h : ℕ) → a ≤ h → h < a + n → (ys : List ℕ) × Out h (counting a n) ys × All (λ k. k ≢ h) ys
 out-counting a zero h l u = absurd (omega arith)
 out-counting a (suc n) h l u = elim (cases-eq a h) [
-    inl e ↦ (counting (a + 1) n, subst (λ m. Out m (a ∷ counting (a + 1) n) (counting (a + 1) n)) e here, all-counting (λ k. k ≢ h) (a + 1) n (λ k m v. omega arith))
-  | inr ne ↦ let r = out-counting (a + 1) n h (omega arith) (omega arith) in (a ∷ r .0, there (r .1), (ne, r .2)) ]
+  | inl e ↦ (counting (a + 1) n, subst (λ m. Out m (a ∷ counting (a + 1) n) (counting (a + 1) n)) e here, all-counting (λ k. k ≢ h) (a + 1) n (λ k m v. omega arith))
+  | inr ne ↦ let r = out-counting (a + 1) n h (omega arith) (omega arith) in (a ∷ r .0, there (r .1), (ne, r .2))
+]
 
 pub setups-few : (j : Job) (h : ℕ) → setups j h ≤ 8
 setups-few j zero = omega arith
@@ -118,7 +123,7 @@ module _ (j : Job) (q : Plan) (h i : ℕ) (len : length (q .setups) ≡ 8) (l : 
     out-unnamed =
         let r = out-counting 1 (j .heads) h l (omega arith) in
         out-those (λ k. not (named q k)) (λ k. not (named (name q h i) k)) (r .1) (not-from-false _ free) (not-from-true _ named-name-same)
-          (all-weaker (λ k. k ≢ h) _ (λ k ne. ap not (sym (named-name-other q h i k ne))) (r .0) (r .2))
+        (all-weaker (λ k. k ≢ h) _ (λ k ne. ap not (sym (named-name-other q h i k ne))) (r .0) (r .2))
 
 pub as-named-symmetric : {S : Type 0} (s : Operations S) (costs : List S) (q : Plan) (a b : ℕ) → as-named s costs q a b ≡ as-named s costs q b a
 as-named-symmetric s costs q a b = grind (arith, tells)
@@ -127,9 +132,9 @@ pub naming-joins-costs : {S : Type 0} {s : Operations S} (laws : Laws s) → Nam
 naming-joins-costs {s = s} laws costs j q h i len l u small free =
     let same : setup (name q h i) h ≡ i = setup-name-same q h i len l (omega (arith, j .eight)) in
     let as-before : All (λ g. setup (name q h i) g ≡ setup q g) (named-heads j q) =
-        all-those _ (named q) (heads j) (all-counting _ 1 (j .heads) (λ g _ _ e. setup-name-other q h i g (λ is. both-ways (named q g) (rw is free) e))) in
+    all-those _ (named q) (heads j) (all-counting _ 1 (j .heads) (λ g _ _ e. setup-name-other q h i g (λ is. both-ways (named q g) (rw is free) e))) in
     joined-pairs-out laws (as-named s costs (name q h i)) (as-named-symmetric s costs (name q h i)) (out-named j q h i len l u small free)
     ∙ ap₂ (s .join)
-        (joined-like s _ _ (named-heads j q) (all-weaker _ _ (λ g e. ap₂ (λ x y. between s costs h x g y) same e) (named-heads j q) as-before))
-        (joined-pairs-like s _ _ _ (λ a b e f. ap₂ (λ x y. between s costs a x b y) e f) (named-heads j q) as-before)
+    (joined-like s _ _ (named-heads j q) (all-weaker _ _ (λ g e. ap₂ (λ x y. between s costs h x g y) same e) (named-heads j q) as-before))
+    (joined-pairs-like s _ _ _ (λ a b e f. ap₂ (λ x y. between s costs a x b y) e f) (named-heads j q) as-before)
     ∙ laws .commutative _ _

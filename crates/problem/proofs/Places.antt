@@ -21,9 +21,10 @@ pair-within (suc (suc (suc (suc (suc (suc (suc (suc a)))))))) b h l e = absurd (
 
 pub pair-of-within : (a b p : ℕ) → Some p ≡ pair-of a b → p < 28
 pair-of-within a b p e = elim (cases-bool (is-pair a b)) [
-    inl y ↦
+  | inl y ↦
       let is : p ≡ pair a b = let z : Some p ≡ Some (pair a b) = e ∙ cond-true _ _ _ y in cc in
       let low = and-parts _ _ y in
       let high = and-parts _ _ (low .1) in
       rw is (pair-within a b (leb-true 1 a (low .0)) (ltb-true a b (high .0)) (leb-true b 8 (high .1)))
-  | inr f ↦ absurd (let z : Some p ≡ None = e ∙ cond-false _ _ _ f in let o : _≡_ {A = ℕ} 0 1 = cc in omega arith) ]
+  | inr f ↦ absurd (let z : Some p ≡ None = e ∙ cond-false _ _ _ f in let o : _≡_ {A = ℕ} 0 1 = cc in omega arith)
+]

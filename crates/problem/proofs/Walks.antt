@@ -43,31 +43,37 @@ module _ (p : ℕ → Bool) (a z : ℕ) where
 -- what a plan's answer for a head says
 pub some-named : (q : Plan) (h i : ℕ) → setup-named q h ≡ Some i → (named q h ≡ true) × (i ≡ setup q h)
 some-named q h i e = elim (cases-bool (named q h)) [
-    inl y ↦ (y, let z : Some (setup q h) ≡ Some i = sym (cond-true _ _ _ y) ∙ e in cc)
-  | inr n ↦ absurd (let z : None ≡ Some i = sym (cond-false (named q h) (Some (setup q h)) None n) ∙ e in let o : _≡_ {A = ℕ} 0 1 = cc in omega arith) ]
+  | inl y ↦ (y, let z : Some (setup q h) ≡ Some i = sym (cond-true _ _ _ y) ∙ e in cc)
+  | inr n ↦ absurd (let z : None ≡ Some i = sym (cond-false (named q h) (Some (setup q h)) None n) ∙ e in let o : _≡_ {A = ℕ} 0 1 = cc in omega arith)
+]
 
 pub none-named : (q : Plan) (h : ℕ) → setup-named q h ≡ None → named q h ≡ false
 none-named q h e = elim (cases-bool (named q h)) [
-    inl y ↦ absurd (let z : Some (setup q h) ≡ None = sym (cond-true _ _ _ y) ∙ e in let o : _≡_ {A = ℕ} 0 1 = cc in omega arith)
-  | inr n ↦ n ]
+  | inl y ↦ absurd (let z : Some (setup q h) ≡ None = sym (cond-true _ _ _ y) ∙ e in let o : _≡_ {A = ℕ} 0 1 = cc in omega arith)
+  | inr n ↦ n
+]
 
 -- each head that a plan of the job names has one of the job's setups
 every-at : (p : ℕ → Bool) (a n h : ℕ) → every p (counting a n) ≡ true → a ≤ h → h < a + n → p h ≡ true
 unfolding every
 every-at p a zero h e l m = absurd (omega arith)
 every-at p a (suc n) h e l m = elim (cases-lt a h) [
-    inl lt ↦ every-at p (a + 1) n h (and-parts _ _ e .1) (omega arith) (omega arith)
-  | inr ge ↦ let same : h ≡ a = omega arith in ap p same ∙ and-parts _ _ e .0 ]
+  | inl lt ↦ every-at p (a + 1) n h (and-parts _ _ e .1) (omega arith) (omega arith)
+  | inr ge ↦ let same : h ≡ a = omega arith in ap p same ∙ and-parts _ _ e .0
+]
 
 module _ (j : Job) (q : Plan) (of-job : is-of-job j q ≡ true) where
   pub named-of-job : (h : ℕ) → named q h ≡ true → setup q h < setups j h
   named-of-job h y = elim (cases-lt h 1) [
-      inl lt ↦ absurd (none (inl lt))
+    | inl lt ↦ absurd (none (inl lt))
     | inr ge ↦ elim (cases-lt 8 h) [
-        inl gt ↦ absurd (none (inr (ge, gt)))
+      | inl gt ↦ absurd (none (inr (ge, gt)))
       | inr le ↦ elim (or-cases _ _ (every-at (λ g. not (named q g) || is-setup j g (setup q g)) 1 8 h of-job ge (omega arith))) [
-          inl n ↦ absurd (both-ways (named q h) (not-true _ n) y)
-        | inr i ↦ ltb-true _ _ i ] ] ]
+        | inl n ↦ absurd (both-ways (named q h) (not-true _ n) y)
+        | inr i ↦ ltb-true _ _ i
+      ]
+    ]
+  ]
     where
       none : ((h < 1) ⊎ ((1 ≤ h) × (8 < h))) → ⊥
       none o = let e = ltb-true (setup q h) 255 y in omega (arith, setup-none q h o)
@@ -79,8 +85,9 @@ module _ (j : Job) (q : Plan) (of-job : is-of-job j q ≡ true) where
 pub head-range : (j : Job) (h : ℕ) → 1 ≤ setups j h → (1 ≤ h) × (h ≤ j .heads)
 head-range j zero e = absurd (omega arith)
 head-range j (suc k) e = elim (cases-lt k (j .heads)) [
-    inl lt ↦ (omega arith, omega arith)
-  | inr ge ↦ absurd (omega (arith, j .rest k ge)) ]
+  | inl lt ↦ (omega arith, omega arith)
+  | inr ge ↦ absurd (omega (arith, j .rest k ge))
+]
 
 -- a head against those of the job that a plan names
 pub comparable : {S : Type 0} (j : Job) (costs : List S) (q : Plan) (h i a : ℕ) → Readable j costs q → 1 ≤ h → h ≤ 8 → i < 8 → 1 ≤ a →
@@ -98,7 +105,7 @@ comparable j costs q h i a r low high fits from apart = record {
 
 module _ {S : Type 0} {s : Operations S} (laws : Laws s) where
   module _ (costs : List S) (q : Plan) (h i a z : ℕ) (sum whole : S)
-    (inv : s .join sum (against-those s costs (counting a (z - a)) h i q) ≡ whole) where
+      (inv : s .join sum (against-those s costs (counting a (z - a)) h i q) ≡ whole) where
     pub against-step : (k : ℕ) → a < z → setup-named q a ≡ Some k →
         s .join (s .join sum (between s costs h i a k)) (against-those s costs (counting (a + 1) (z - (a + 1))) h i q) ≡ whole
     unfolding joined
@@ -119,7 +126,7 @@ module _ {S : Type 0} {s : Operations S} (laws : Laws s) where
     against-done h′ = sym (neutral-right laws sum) ∙ ap (λ (xs : List ℕ). s .join sum (joined s (λ g. between s costs h i g (setup q g)) xs)) (sym (those-end (named q) a z h′)) ∙ inv
 
   module _ (costs : List S) (q : Plan) (a z : ℕ) (sum whole : S)
-    (inv : s .join sum (joined-pairs s (as-named s costs q) (those (named q) (counting a (z - a)))) ≡ whole) where
+      (inv : s .join sum (joined-pairs s (as-named s costs q) (those (named q) (counting a (z - a)))) ≡ whole) where
     pub pairs-step : (i : ℕ) → a < z → setup-named q a ≡ Some i →
         s .join (s .join sum (against-those s costs (counting (a + 1) (z - (a + 1))) a i q)) (joined-pairs s (as-named s costs q) (those (named q) (counting (a + 1) (z - (a + 1))))) ≡ whole
     unfolding joined-pairs

@@ -51,8 +51,9 @@ module _ (j : Job) (q : Plan) (u : ℕ) (len : length (q .setups) ≡ 8) (l : 1 
     where
       alike : (h : ℕ) → named (name q u i) h ≡ named (name q u 0) h
       alike h = elim (cases-eq h u) [
-          inl e ↦ rw e (named-name-same j q u i len l k small ∙ sym (named-name-same j q u 0 len l k (omega arith)))
-        | inr ne ↦ named-name-other q u i h ne ∙ sym (named-name-other q u 0 h ne) ]
+        | inl e ↦ rw e (named-name-same j q u i len l k small ∙ sym (named-name-same j q u 0 len l k (omega arith)))
+        | inr ne ↦ named-name-other q u i h ne ∙ sym (named-name-other q u 0 h ne)
+      ]
 
   out-child : Out u (unnamed-heads j q) (unnamed-heads j (name q u 0))
   out-child = out-unnamed j q u 0 len l k (omega arith) free
@@ -60,8 +61,8 @@ module _ (j : Job) (q : Plan) (u : ℕ) (len : length (q .setups) ≡ 8) (l : 1 
   children-weigh : sumBy (weight j) (children j q u) ≡ completions j q * share (j .heads) (length (unnamed-heads j (name q u 0)))
   children-weigh =
       let weigh-alike : All (λ p. weight j p ≡ weight j (name q u 0)) (children j q u) =
-          all-map _ (name q u) (counting 0 (setups j u)) (all-counting _ 0 (setups j u) (λ i _ m.
-            ap (λ us. product (setups j) us * share (j .heads) (length us)) (unnamed-alike i (omega (arith, setups-few j u))))) in
+      all-map _ (name q u) (counting 0 (setups j u)) (all-counting _ 0 (setups j u) (λ i _ m.
+      ap (λ us. product (setups j) us * share (j .heads) (length us)) (unnamed-alike i (omega (arith, setups-few j u))))) in
       sumBy-constant (weight j) (weight j (name q u 0)) (children j q u) weigh-alike
       ∙ rw (length-map-counting (name q u) 0 (setups j u), product-out (setups j) out-child) (sym (mul-assoc (setups j u) _ _))
 
@@ -90,5 +91,5 @@ pub roots-weigh : Roots-weigh
 roots-weigh j u l k =
     let free : named empty u ≡ false = named-empty u l (omega (arith, j .eight)) in
     let count : j .heads ≡ suc (length (unnamed-heads j (name empty u 0))) =
-        sym (ap length (unnamed-empty j) ∙ length-counting 1 (j .heads)) ∙ out-length (out-child j empty u refl l k free) in
+    sym (ap length (unnamed-empty j) ∙ length-counting 1 (j .heads)) ∙ out-length (out-child j empty u refl l k free) in
     children-weigh j empty u refl l k free ∙ rw (unnamed-empty j, share-rest (j .heads) _ count)

@@ -85,7 +85,13 @@ fn plan_cost_known<S: Scale>(job: &Job, costs: &[S], plan: &Plan) -> S
 // The join of what a setup of a head costs against each head that the plan names. Refused as too little memory for fewer than
 // 1,792 costs, then as a bad number unless the plan is one of the job that does not name the head, and the setup is one of
 // that head's.
-pub fn against<S: Scale>(job: &Job, costs: &[S], head: u8, setup: u8, plan: &Plan) -> Result<S, Refusal>
+pub fn against<S: Scale>(
+    job: &Job,
+    costs: &[S],
+    head: u8,
+    setup: u8,
+    plan: &Plan,
+) -> Result<S, Refusal>
     ensures { λ r. ⌜ r ≡ priced (now (costs .entry)) (may-ask-setup (now (job .entry)) head setup (now (plan .entry))) (against-named (S·Scale .scale) (now (costs .entry)) (now (job .entry)) head setup (now (plan .entry))) ⌝ }
 {
     if costs.len() < PLACES {

@@ -28,9 +28,9 @@ inner : (c d m n : ℕ) → beside (min c 1000 + d) (beside c m + n) ≡ beside 
 inner c d m n =
     ⊎-elim
     (λ (lt : c + d < 1000).
-        let within : beside c m ≡ min m 1000000000 = part c m (omega arith) in
-        let sums : min (beside c m + n) 1000000000 ≡ min (m + n) 1000000000 = rw within (omega arith) in
-        part (min c 1000 + d) (beside c m + n) (omega arith) ∙ sums ∙ sym (part (c + d) (m + n) lt))
+    let within : beside c m ≡ min m 1000000000 = part c m (omega arith) in
+    let sums : min (beside c m + n) 1000000000 ≡ min (m + n) 1000000000 = rw within (omega arith) in
+    part (min c 1000 + d) (beside c m + n) (omega arith) ∙ sums ∙ sym (part (c + d) (m + n) lt))
     (λ (ge : 1000 ≤ c + d). full (min c 1000 + d) (beside c m + n) (omega arith) ∙ sym (full (c + d) (m + n) ge))
     (cases-lt (c + d) 1000)
 
@@ -67,19 +67,22 @@ Numbers x c m = (number (take 2 (clashes-bytes x)) ≡ c) × (number (drop 2 (cl
 -- the numbers that a value's bytes write
 pub written-numbers : (x : Clashes) → (Numbers x 65535 4294967295 × (x .clashes ≡ 1000)) ⊎ (Numbers x (x .clashes) (x .minutes) × (x .clashes < 1000))
 written-numbers x = elim (cases-eq (x .clashes) 1000) [
-    inl e ↦ inl ((ap (λ bs. number (take 2 bs)) (bytes-never x e), ap (λ bs. number (drop 2 bs)) (bytes-never x e)), e)
+  | inl e ↦ inl ((ap (λ bs. number (take 2 bs)) (bytes-never x e), ap (λ bs. number (drop 2 bs)) (bytes-never x e)), e)
   | inr ne ↦
-      inr ((ap (λ bs. number (take 2 bs)) (bytes-other x ne) ∙ two-back (x .clashes) (omega (arith, x .few)), ap (λ bs. number (drop 2 bs)) (bytes-other x ne) ∙ four-back (x .minutes) (omega (arith, x .short))), omega (arith, x .few)) ]
+      inr ((ap (λ bs. number (take 2 bs)) (bytes-other x ne) ∙ two-back (x .clashes) (omega (arith, x .few)), ap (λ bs. number (drop 2 bs)) (bytes-other x ne) ∙ four-back (x .minutes) (omega (arith, x .short))), omega (arith, x .few))
+]
 
 long : (x : Clashes) → length (clashes-bytes x) ≡ 6
 long x = elim (cases-eq (x .clashes) 1000) [
-    inl e ↦ ap length (bytes-never x e)
-  | inr ne ↦ ap length (bytes-other x ne) ]
+  | inl e ↦ ap length (bytes-never x e)
+  | inr ne ↦ ap length (bytes-other x ne)
+]
 
 pub clashes-back : (x : Clashes) → counted (number (take 2 (clashes-bytes x))) (number (drop 2 (clashes-bytes x))) ≡ x
 clashes-back x = elim (written-numbers x) [
-    inl p ↦ counted-same _ _ x (omega (arith, p .0 .0, p .1)) (omega (arith, p .0 .1, x .full (omega (arith, p .1))))
-  | inr p ↦ counted-same _ _ x (omega (arith, p .0 .0, p .1)) (omega (arith, p .0 .1, x .short)) ]
+  | inl p ↦ counted-same _ _ x (omega (arith, p .0 .0, p .1)) (omega (arith, p .0 .1, x .full (omega (arith, p .1))))
+  | inr p ↦ counted-same _ _ x (omega (arith, p .0 .0, p .1)) (omega (arith, p .0 .1, x .short))
+]
 
 pub clashes-coded : Coded clashes clashes-coding
 clashes-coded = record { some = omega arith; few = omega arith; long = long; back = clashes-back; all-FF = refl }

@@ -41,18 +41,21 @@ bytes-other x ne = cond-false _ _ _ (ne-eqb _ _ ne)
 -- the number that a value's bytes write
 pub written-number : (x : Minutes) → ((number (minutes-bytes x) ≡ 4294967295) × (x .value ≡ 1000000000)) ⊎ ((number (minutes-bytes x) ≡ x .value) × (x .value < 1000000000))
 written-number x = elim (cases-eq (x .value) 1000000000) [
-    inl e ↦ inl (ap number (bytes-never x e), e)
-  | inr ne ↦ inr (ap number (bytes-other x ne) ∙ four-back (x .value) (omega (arith, x .ok)), omega (arith, x .ok)) ]
+  | inl e ↦ inl (ap number (bytes-never x e), e)
+  | inr ne ↦ inr (ap number (bytes-other x ne) ∙ four-back (x .value) (omega (arith, x .ok)), omega (arith, x .ok))
+]
 
 long : (x : Minutes) → length (minutes-bytes x) ≡ 4
 long x = elim (cases-eq (x .value) 1000000000) [
-    inl e ↦ ap length (bytes-never x e)
-  | inr ne ↦ ap length (bytes-other x ne) ]
+  | inl e ↦ ap length (bytes-never x e)
+  | inr ne ↦ ap length (bytes-other x ne)
+]
 
 pub minutes-back : (x : Minutes) → capped (number (minutes-bytes x)) ≡ x
 minutes-back x = elim (written-number x) [
-    inl p ↦ minutes-same _ _ (omega (arith, p .0, p .1))
-  | inr p ↦ minutes-same _ _ (omega (arith, p .0, p .1)) ]
+  | inl p ↦ minutes-same _ _ (omega (arith, p .0, p .1))
+  | inr p ↦ minutes-same _ _ (omega (arith, p .0, p .1))
+]
 
 pub minutes-coded : Coded minutes minutes-coding
 minutes-coded = record { some = omega arith; few = omega arith; long = long; back = minutes-back; all-FF = refl }

@@ -20,5 +20,6 @@ module _ {S : Type 0} (c : Coding S) (back : (x : S) → c .value (c .bytes x) �
 
   pub reads-none : (bs : List ℕ) → ((x : S) → c .bytes x ≡ bs → ⊥) → None ≡ reading c bs
   reads-none bs other = elim (cases-bool (sameBytes (c .bytes (c .value bs)) bs)) [
-      inl e ↦ absurd (other (c .value bs) (sameBytes-decides _ bs .0 e))
-    | inr e ↦ sym (cond-false _ (Some (c .value bs)) None e) ]
+    | inl e ↦ absurd (other (c .value bs) (sameBytes-decides _ bs .0 e))
+    | inr e ↦ sym (cond-false _ (Some (c .value bs)) None e)
+  ]

@@ -4,3 +4,5 @@ pub mod Bytes
 pub mod MinutesModel
 pub mod ClashesModel
 pub mod Edges
+pub mod MinutesWords
+pub mod ClashesWords

@@ -13,3 +13,4 @@ pub struct Clashes {
 }
 
 pub mod operations;
+pub mod words;

@@ -9,3 +9,4 @@ pub struct Minutes {
 }
 
 pub mod operations;
+pub mod words;

@@ -33,13 +33,15 @@ use Rattle.sheet.specs.Judgements.{First-unlawful, fits, Changes, opens, knows
 module _ {X E : Type 0} (t : Bool) (r : Result X E) (e : E) where
   pub passed : {x : X} → cond t r (Err e) ≡ Ok x → (t ≡ true) × (r ≡ Ok x)
   passed {x} h = elim (cases-bool t) [
-      inl y ↦ (y, sym (cond-true _ _ _ y) ∙ h)
-    | inr n ↦ absurd (let z : Err e ≡ Ok x = sym (cond-false t r (Err e) n) ∙ h in let o : _≡_ {A = ℕ} 0 1 = cc in omega arith) ]
+    | inl y ↦ (y, sym (cond-true _ _ _ y) ∙ h)
+    | inr n ↦ absurd (let z : Err e ≡ Ok x = sym (cond-false t r (Err e) n) ∙ h in let o : _≡_ {A = ℕ} 0 1 = cc in omega arith)
+  ]
 
   pub broken : {b : E} → cond t r (Err e) ≡ Err b → ((t ≡ true) × (r ≡ Err b)) ⊎ ((t ≡ false) × (e ≡ b))
   broken {b} h = elim (cases-bool t) [
-      inl y ↦ inl (y, sym (cond-true _ _ _ y) ∙ h)
-    | inr n ↦ inr (n, let z : Err e ≡ Err b = sym (cond-false t r (Err e) n) ∙ h in cc) ]
+    | inl y ↦ inl (y, sym (cond-true _ _ _ y) ∙ h)
+    | inr n ↦ inr (n, let z : Err e ≡ Err b = sym (cond-false t r (Err e) n) ∙ h in cc)
+  ]
 
 -- the first that fails is the first: it fails, and all before it pass
 pub record First (good : ℕ → Bool) (k n m : ℕ) : Type 0 where
@@ -51,8 +53,9 @@ pub record First (good : ℕ → Bool) (k n m : ℕ) : Type 0 where
 pub first-is : (good : ℕ → Bool) (k n m : ℕ) → first-fails good k n ≡ Some m → First good k n m
 first-is good k zero m e = absurd (let o : _≡_ {A = ℕ} 0 1 = cc in omega arith)
 first-is good k (suc n) m e = elim (cases-bool (good k)) [
-    inl y ↦ longer y (first-is good (k + 1) n m (sym (cond-true _ _ _ y) ∙ e))
-  | inr f ↦ here f (let z : Some k ≡ Some m = sym (cond-false _ _ _ f) ∙ e in cc) ]
+  | inl y ↦ longer y (first-is good (k + 1) n m (sym (cond-true _ _ _ y) ∙ e))
+  | inr f ↦ here f (let z : Some k ≡ Some m = sym (cond-false _ _ _ f) ∙ e in cc)
+]
   where
     longer : good k ≡ true → First good (k + 1) n m → First good k (suc n) m
     longer y h = record {
@@ -61,14 +64,16 @@ first-is good k (suc n) m e = elim (cases-bool (good k)) [
       fails = h .fails;
       before = λ i l u. elim (cases-eq i k) [ inl is ↦ ap good is ∙ y | inr ne ↦ h .before i (omega arith) u ];
     }
+
     here : good k ≡ false → k ≡ m → First good k (suc n) m
     here f is = record { from = omega arith; below = omega arith; fails = ap good (sym is) ∙ f; before = λ i l u. absurd (omega arith) }
 
 pub all-pass : (good : ℕ → Bool) (k n : ℕ) → first-fails good k n ≡ None → (i : ℕ) → k ≤ i → i < k + n → good i ≡ true
 all-pass good k zero e i l u = absurd (omega arith)
 all-pass good k (suc n) e i l u = elim (cases-bool (good k)) [
-    inl y ↦ elim (cases-eq i k) [ inl is ↦ ap good is ∙ y | inr ne ↦ all-pass good (k + 1) n (sym (cond-true _ _ _ y) ∙ e) i (omega arith) (omega arith) ]
-  | inr f ↦ absurd (let z : Some k ≡ None = sym (cond-false (good k) (first-fails good (k + 1) n) (Some k) f) ∙ e in let o : _≡_ {A = ℕ} 0 1 = cc in omega arith) ]
+  | inl y ↦ elim (cases-eq i k) [ inl is ↦ ap good is ∙ y | inr ne ↦ all-pass good (k + 1) n (sym (cond-true _ _ _ y) ∙ e) i (omega arith) (omega arith) ]
+  | inr f ↦ absurd (let z : Some k ≡ None = sym (cond-false (good k) (first-fails good (k + 1) n) (Some k) f) ∙ e in let o : _≡_ {A = ℕ} 0 1 = cc in omega arith)
+]
 
 absent : {S : Type 0} (o : Option S) → isSome o ≡ false → o ≡ None
 absent (Some x) e = absurd (let o : _≡_ {A = ℕ} 0 1 = cc in omega arith)
@@ -115,6 +120,7 @@ module _ {S : Type 0} (c : Coding S) (s : Progress) where
       by-entries : getD (s .tables) (pair a b) false ≡ false → (o : Option (ℕ × ℕ)) → first-unlawful (entry c ds) (setups-of s a) (setups-of s b) ≡ o → entries-judged (tabled s (pair a b)) o ≡ Ok t → Changes c s (table a b ds) t
       by-entries new None is k = let same : tabled s (pair a b) ≡ t = cc in subst (Changes c s (table a b ds)) same (has-table new (lawful-all (entry c ds) (setups-of s a) (setups-of s b) is))
       by-entries new (Some at) is k = absurd (let o : _≡_ {A = ℕ} 0 1 = cc in omega arith)
+
       by-seen : (seen : Bool) → getD (s .tables) (pair a b) false ≡ seen → cond seen (Err SecondTable) (entries-judged (tabled s (pair a b)) (first-unlawful (entry c ds) (setups-of s a) (setups-of s b))) ≡ Ok t → Changes c s (table a b ds) t
       by-seen true is k = absurd (let o : _≡_ {A = ℕ} 0 1 = cc in omega arith)
       by-seen false is k = by-entries is _ refl k
@@ -134,20 +140,24 @@ module _ {S : Type 0} (c : Coding S) (s : Progress) where
 
   frame-broken : (f : Said) (b : Breach) → frame-read c s f ≡ Err b → Frame-breaks f b
   frame-broken (opening n scale) b e = elim (broken (opening-fits c n scale) (Ok (opened s n)) BadNumber e) [
-      inl h ↦ absurd (let z = h .1 in let o : _≡_ {A = ℕ} 0 1 = cc in omega arith)
-    | inr h ↦ misfits (opening n scale) (h .0) (h .1) ]
+    | inl h ↦ absurd (let z = h .1 in let o : _≡_ {A = ℕ} 0 1 = cc in omega arith)
+    | inr h ↦ misfits (opening n scale) (h .0) (h .1)
+  ]
   frame-broken (head h d) b e = elim (broken (head-fits c s h d) (Ok (headed s d)) BadNumber e) [
-      inl k ↦ absurd (let z = k .1 in let o : _≡_ {A = ℕ} 0 1 = cc in omega arith)
-    | inr k ↦ misfits (head h d) (k .0) (k .1) ]
+    | inl k ↦ absurd (let z = k .1 in let o : _≡_ {A = ℕ} 0 1 = cc in omega arith)
+    | inr k ↦ misfits (head h d) (k .0) (k .1)
+  ]
   frame-broken (table a₁ a₂ ds) b e = elim (broken (table-fits c s a₁ a₂ ds) (table-read c s a₁ a₂ ds) BadNumber e) [
-      inl h ↦ by-seen (h .0) (getD (s .tables) (pair a₁ a₂) false) refl (h .1)
-    | inr h ↦ misfits (table a₁ a₂ ds) (h .0) (h .1) ]
+    | inl h ↦ by-seen (h .0) (getD (s .tables) (pair a₁ a₂) false) refl (h .1)
+    | inr h ↦ misfits (table a₁ a₂ ds) (h .0) (h .1)
+  ]
     where
       by-entries : table-fits c s a₁ a₂ ds ≡ true → getD (s .tables) (pair a₁ a₂) false ≡ false → (o : Option (ℕ × ℕ)) → first-unlawful (entry c ds) (setups-of s a₁) (setups-of s a₂) ≡ o → entries-judged (tabled s (pair a₁ a₂)) o ≡ Err b → Frame-breaks (table a₁ a₂ ds) b
       by-entries fit new (Some at) is k =
           let same : BadEntry (at .0) (at .1) ≡ b = cc in
           subst (Frame-breaks (table a₁ a₂ ds)) same (unlawful-entry fit new (unlawful-at (entry c ds) (setups-of s a₁) (setups-of s a₂) at is))
       by-entries fit new None is k = absurd (let o : _≡_ {A = ℕ} 0 1 = cc in omega arith)
+
       by-seen : table-fits c s a₁ a₂ ds ≡ true → (seen : Bool) → getD (s .tables) (pair a₁ a₂) false ≡ seen → cond seen (Err SecondTable) (entries-judged (tabled s (pair a₁ a₂)) (first-unlawful (entry c ds) (setups-of s a₁) (setups-of s a₂))) ≡ Err b → Frame-breaks (table a₁ a₂ ds) b
       by-seen fit true is k = let same : SecondTable ≡ b = cc in subst (Frame-breaks (table a₁ a₂ ds)) same (again fit is)
       by-seen fit false is k = by-entries fit is _ refl k
@@ -165,10 +175,12 @@ module _ {S : Type 0} (c : Coding S) (s : Progress) where
 
   pub line-broken : (l : List ℕ) (ls : List (List ℕ)) (b : Breach) → line-read c s l ≡ Err b → Breaks c s (l ∷ ls) b
   line-broken l ls b e = elim (broken (is-line l) (step c s (frame-of l)) BadLine e) [
-      inr h ↦ subst (Breaks c s (l ∷ ls)) (h .1) (no-line (h .0))
+    | inr h ↦ subst (Breaks c s (l ∷ ls)) (h .1) (no-line (h .0))
     | inl h ↦ elim (broken (due (s .stage) (kind (frame-of l))) (frame-read c s (frame-of l)) NotDue (h .1)) [
-        inr k ↦ subst (Breaks c s (l ∷ ls)) (k .1) (not-due (h .0) (k .0))
-      | inl k ↦ by-frame (frame-of l) b refl (h .0) (k .0) (frame-broken (frame-of l) b (k .1)) ] ]
+      | inr k ↦ subst (Breaks c s (l ∷ ls)) (k .1) (not-due (h .0) (k .0))
+      | inl k ↦ by-frame (frame-of l) b refl (h .0) (k .0) (frame-broken (frame-of l) b (k .1))
+    ]
+  ]
     where
       by-frame : (f : Said) (b′ : Breach) → frame-of l ≡ f → is-line l ≡ true → due (s .stage) (kind (frame-of l)) ≡ true → Frame-breaks f b′ → Breaks c s (l ∷ ls) b′
       by-frame f b′ is a-line a-due (misfit h) = out-of-range a-line a-due (ap (fits c s) is ∙ h)
@@ -207,6 +219,9 @@ module _ {S : Type 0} (c : Coding S) where
   verdict : (n : ℕ) (s : Progress) (ls : List (List ℕ)) → Verdict c n s ls (lines-read c n s ls)
   verdict n s [] = at-end n s (is-ended (s .stage)) refl
   verdict n s (l ∷ ls) = on-line n s l ls (line-read c s l) refl (λ u. verdict (n + 1) u ls)
+
+  pub lines-kept : (n : ℕ) (s : Progress) (ls : List (List ℕ)) (p : Progress) → lines-read c n s ls ≡ Ok p → Goes c s ls p
+  lines-kept n s ls p e = let v : Verdict c n s ls (Ok p) = subst (Verdict c n s ls) e (verdict n s ls) in v .0
 
   verdict-is : (sheet : List ℕ) (r : Result Progress SheetRefusal) → sheet-read c sheet ≡ r → Verdict c 1 start (lines sheet) r
   verdict-is sheet r e = subst (Verdict c 1 start (lines sheet)) e (verdict 1 start (lines sheet))

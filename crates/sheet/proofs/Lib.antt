@@ -1,5 +1,7 @@
 pub mod Digits
 pub mod Entries
+pub mod Fills
 pub mod Judges
+pub mod LaidOut
 pub mod Lines
 pub mod Shapes

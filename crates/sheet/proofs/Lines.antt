@@ -27,13 +27,15 @@ use Rattle.sheet.specs.Sheets.{refused-at, is-ended, onward, lines-read, onto-
 -- what the answer of `of_line` says
 pub framed-some : (l : List ℕ) (f : Said) → Some f ≡ cond (is-line l) (Some (frame-of l)) None → (is-line l ≡ true) × (f ≡ frame-of l)
 framed-some l f e = elim (cases-bool (is-line l)) [
-    inl y ↦ (y, let z : Some f ≡ Some (frame-of l) = e ∙ cond-true _ _ _ y in cc)
-  | inr n ↦ absurd (let z : Some f ≡ None = e ∙ cond-false _ _ _ n in let o : _≡_ {A = ℕ} 0 1 = cc in omega arith) ]
+  | inl y ↦ (y, let z : Some f ≡ Some (frame-of l) = e ∙ cond-true _ _ _ y in cc)
+  | inr n ↦ absurd (let z : Some f ≡ None = e ∙ cond-false _ _ _ n in let o : _≡_ {A = ℕ} 0 1 = cc in omega arith)
+]
 
 pub framed-none : (l : List ℕ) → None ≡ cond (is-line l) (Some (frame-of l)) None → is-line l ≡ false
 framed-none l e = elim (cases-bool (is-line l)) [
-    inl y ↦ absurd (let z : None ≡ Some (frame-of l) = e ∙ cond-true _ _ _ y in let o : _≡_ {A = ℕ} 0 1 = cc in omega arith)
-  | inr n ↦ n ]
+  | inl y ↦ absurd (let z : None ≡ Some (frame-of l) = e ∙ cond-true _ _ _ y in let o : _≡_ {A = ℕ} 0 1 = cc in omega arith)
+  | inr n ↦ n
+]
 
 -- the lines of bytes are the first line and the lines of what is left
 stop : (b : ℕ) (bs : List ℕ) → eqb b 10 ≡ true → lines (b ∷ bs) ≡ take (line-length (b ∷ bs)) (b ∷ bs) ∷ lines (drop (line-length (b ∷ bs)) (b ∷ bs))
@@ -47,13 +49,15 @@ longer b bs e = rw e (omega arith)
 pub first-line : (bs : List ℕ) → 0 < length bs → lines bs ≡ take (line-length bs) bs ∷ lines (drop (line-length bs) bs)
 first-line [] h = absurd (omega arith)
 first-line (b ∷ []) h = elim (cases-bool (eqb b 10)) [
-    inl e ↦ stop b [] e
-  | inr e ↦ cond-false _ _ _ e ∙ ap (λ (n : ℕ). take n (b ∷ []) ∷ lines (drop n (b ∷ []))) (sym (longer b [] e)) ]
+  | inl e ↦ stop b [] e
+  | inr e ↦ cond-false _ _ _ e ∙ ap (λ (n : ℕ). take n (b ∷ []) ∷ lines (drop n (b ∷ []))) (sym (longer b [] e))
+]
 first-line (b ∷ x ∷ bs) h = elim (cases-bool (eqb b 10)) [
-    inl e ↦ stop b (x ∷ bs) e
+  | inl e ↦ stop b (x ∷ bs) e
   | inr e ↦
       cond-false _ _ _ e ∙ ap (onto b) (first-line (x ∷ bs) (omega arith))
-      ∙ ap (λ (n : ℕ). take n (b ∷ x ∷ bs) ∷ lines (drop n (b ∷ x ∷ bs))) (sym (longer b (x ∷ bs) e)) ]
+      ∙ ap (λ (n : ℕ). take n (b ∷ x ∷ bs) ∷ lines (drop n (b ∷ x ∷ bs))) (sym (longer b (x ∷ bs) e))
+]
 
 pub line-length-within : (bs : List ℕ) → 0 < length bs → (1 ≤ line-length bs) × (line-length bs ≤ length bs)
 line-length-within bs h = (omega arith, omega arith)
@@ -95,8 +99,9 @@ module _ {S : Type 0} (c : Coding S) (n : ℕ) (s : Progress) (bs : List ℕ) (n
 module _ {S : Type 0} (c : Coding S) where
   at-end : (n : ℕ) (s p : Progress) → lines-read c n s [] ≡ Ok p → is-ended (p .stage) ≡ true
   at-end n s p e = elim (cases-bool (is-ended (s .stage))) [
-      inl y ↦ let same : Ok s ≡ Ok p = sym (cond-true _ _ _ y) ∙ e in let is : s ≡ p = cc in ap (λ (q : Progress). is-ended (q .stage)) (sym is) ∙ y
-    | inr n′ ↦ absurd (let z : Err (refused-at n NotDue) ≡ Ok p = sym (cond-false _ _ _ n′) ∙ e in let o : _≡_ {A = ℕ} 0 1 = cc in omega arith) ]
+    | inl y ↦ let same : Ok s ≡ Ok p = sym (cond-true _ _ _ y) ∙ e in let is : s ≡ p = cc in ap (λ (q : Progress). is-ended (q .stage)) (sym is) ∙ y
+    | inr n′ ↦ absurd (let z : Err (refused-at n NotDue) ≡ Ok p = sym (cond-false _ _ _ n′) ∙ e in let o : _≡_ {A = ℕ} 0 1 = cc in omega arith)
+  ]
 
   pub read-ends : (n : ℕ) (s p : Progress) (ls : List (List ℕ)) → lines-read c n s ls ≡ Ok p → is-ended (p .stage) ≡ true
   read-ends n s p [] e = at-end n s p e

@@ -28,8 +28,9 @@ use Rattle.sheet.specs.Sheets.{is-ended}
 
 pub setups-few : (s : Progress) → Sound s → (h : ℕ) → setups-of s h ≤ 8
 setups-few s sound h = elim (cases-lt (h - 1) (s .known)) [
-    inl lt ↦ sound .each (h - 1) lt .1
-  | inr ge ↦ omega (arith, sound .rest (h - 1) ge) ]
+  | inl lt ↦ sound .each (h - 1) lt .1
+  | inr ge ↦ omega (arith, sound .rest (h - 1) ge)
+]
 
 -- a table that has a shape fits, and its numbers are in range
 pub record Shaped {S : Type 0} (c : Coding S) (s : Progress) (a b : ℕ) (ds : List ℕ) (sh : Shape) : Type 0 where
@@ -45,8 +46,9 @@ pub record Shaped {S : Type 0} (c : Coding S) (s : Progress) (a b : ℕ) (ds : L
 module _ {S : Type 0} (c : Coding S) (s : Progress) (sound : Sound s) (a b : ℕ) (ds : List ℕ) where
   pub shaped : (sh : Shape) → Some sh ≡ shape c s a b ds → Shaped c s a b ds sh
   shaped sh e = elim (cases-bool (table-fits c s a b ds)) [
-      inl yes-fits ↦ fitting yes-fits (e ∙ cond-true _ _ _ yes-fits)
-    | inr not-fits ↦ absurd (let z : Some sh ≡ None = e ∙ cond-false _ _ _ not-fits in let o : _≡_ {A = ℕ} 0 1 = cc in omega arith) ]
+    | inl yes-fits ↦ fitting yes-fits (e ∙ cond-true _ _ _ yes-fits)
+    | inr not-fits ↦ absurd (let z : Some sh ≡ None = e ∙ cond-false _ _ _ not-fits in let o : _≡_ {A = ℕ} 0 1 = cc in omega arith)
+  ]
     where
       fitting : table-fits c s a b ds ≡ true → Some sh ≡ Some (record { pair = pair a b; rows = setups-of s a; columns = setups-of s b }) → Shaped c s a b ds sh
       fitting f is =
@@ -80,16 +82,18 @@ table-accepted c s a b ds sh f fresh lawful =
 module _ (s : Progress) (d : ℕ) (sound : Sound s) (at : s .stage ≡ Heads) (below : s .known < s .heads) (room : length (s .setups) ≡ 8) (some : 1 ≤ d) (few : d ≤ 8) where
   stays-staged : Staged (stage-after (s .known + 1) (s .heads)) (s .heads) (s .known + 1)
   stays-staged = elim (cases-lt (s .known + 1) (s .heads)) [
-      inl lt ↦ rw (lt-ltb _ _ lt) lt
-    | inr ge ↦ rw (le-ltb _ _ ge) (omega arith, omega arith) ]
+    | inl lt ↦ rw (lt-ltb _ _ lt) lt
+    | inr ge ↦ rw (le-ltb _ _ ge) (omega arith, omega arith)
+  ]
 
   pub headed-sound : Sound (headed s d)
   headed-sound = record {
     few = sound .few;
     staged = stays-staged;
     each = λ k lt. elim (cases-eq k (s .known)) [
-        inl e ↦ rw (e, getD-set-same (s .setups) (s .known) d 0 (omega (arith, sound .few))) (some, few)
-      | inr ne ↦ rw (getD-set-other (s .setups) (s .known) k d 0 ne) (sound .each k (omega arith)) ];
+      | inl e ↦ rw (e, getD-set-same (s .setups) (s .known) d 0 (omega (arith, sound .few))) (some, few)
+      | inr ne ↦ rw (getD-set-other (s .setups) (s .known) k d 0 ne) (sound .each k (omega arith))
+    ];
     rest = λ k ge. getD-set-other (s .setups) (s .known) k d 0 (omega arith) ∙ sound .rest k (omega arith);
   }
 
@@ -124,7 +128,7 @@ counts-lawful s sound e room =
     let staged = ended-staged (s .stage) (s .heads) (s .known) e (sound .staged) in
     let long : length (take (s .heads) (s .setups)) ≡ s .heads = length-take-le (s .heads) (s .setups) (omega (arith, sound .few)) in
     and-from _ _ (rw long (and-from (leb 1 (s .heads)) (leb (s .heads) 8) (le-leb _ _ (omega arith)) (le-leb _ _ (sound .few))))
-      (every-at-places (λ d. leb 1 d && leb d 8) (take (s .heads) (s .setups)) 0 (λ k lt.
-        let same : getD (take (s .heads) (s .setups)) k 0 ≡ getD (s .setups) k 0 = getD-take (s .heads) (s .setups) k 0 (omega arith) in
-        let each = sound .each k (omega arith) in
-        rw same (and-from _ _ (le-leb _ _ (each .0)) (le-leb _ _ (each .1)))))
+    (every-at-places (λ d. leb 1 d && leb d 8) (take (s .heads) (s .setups)) 0 (λ k lt.
+    let same : getD (take (s .heads) (s .setups)) k 0 ≡ getD (s .setups) k 0 = getD-take (s .heads) (s .setups) k 0 (omega arith) in
+    let each = sound .each k (omega arith) in
+    rw same (and-from _ _ (le-leb _ _ (each .0)) (le-leb _ _ (each .1)))))

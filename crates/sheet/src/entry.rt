@@ -27,7 +27,11 @@ fn cost_of<S: Scale>(digits: &[u8]) -> Option<S>
     let bytes = &mut buffer[0..S::byte_count()];
     write_bytes(digits, bytes);
     match S::read(bytes) {
-        Some(cost) => if cost.is_enterable() { Some(cost) } else { None },
+        Some(cost) => if cost.is_enterable() {
+            Some(cost)
+        } else {
+            None
+        },
         None => None,
     }
 }
@@ -43,7 +47,11 @@ fn entry<S: Scale>(digits: &[u8], n: usize) -> Option<S>
 }
 
 // Where the first entry stands that a sheet may not have: its row and column, from 0.
-pub(crate) fn first_unlawful<S: Scale>(digits: &[u8], rows: usize, columns: usize) -> Option<(u8, u8)>
+pub(crate) fn first_unlawful<S: Scale>(
+    digits: &[u8],
+    rows: usize,
+    columns: usize,
+) -> Option<(u8, u8)>
     requires shape { ⌜ rows ≤ 8 ⌝ ∗ ⌜ columns ≤ 8 ⌝ }
     requires size { ⌜ length (now digits) ≡ 2 * S·Scale .coding .width * (columns * rows) ⌝ }
     ensures { λ r. ⌜ r ≡ unlawful (entry-of (S·Scale .coding) (now (digits .entry))) rows columns ⌝ }

@@ -19,9 +19,19 @@ pub enum Kind {
 
 #[derive(Clone, Copy)]
 pub enum Frame<'a> {
-    Opening { heads: u8, scale: u8 },
-    Head { head: u8, setups: u8 },
-    Table { first: u8, second: u8, digits: &'a [u8] },
+    Opening {
+        heads: u8,
+        scale: u8,
+    },
+    Head {
+        head: u8,
+        setups: u8,
+    },
+    Table {
+        first: u8,
+        second: u8,
+        digits: &'a [u8],
+    },
     End,
     // of this kind, but not of its length
     Misshapen(Kind),
@@ -43,7 +53,11 @@ fn from_fields<'a>(kind: u8, a: u8, b: u8, digits: &'a [u8]) -> Frame<'a>
         1 => Frame::Misshapen(Kind::Opening),
         2 if digits.is_empty() => Frame::Head { head: a, setups: b },
         2 => Frame::Misshapen(Kind::Head),
-        3 => Frame::Table { first: a, second: b, digits },
+        3 => Frame::Table {
+            first: a,
+            second: b,
+            digits,
+        },
         4 => Frame::Misshapen(Kind::End),
         _ => Frame::Unknown,
     }
@@ -67,7 +81,12 @@ fn framed<'a>(digits: &'a [u8]) -> Frame<'a>
     ensures { λ r. ⌜ said r ≡ framed-digits (now (digits .entry)) ⌝ }
 {
     match digits {
-        [k0, k1, a0, a1, b0, b1, rest @ ..] => from_fields(byte(*k0, *k1), byte(*a0, *a1), byte(*b0, *b1), rest),
+        [k0, k1, a0, a1, b0, b1, rest @ ..] => from_fields(
+            byte(*k0, *k1),
+            byte(*a0, *a1),
+            byte(*b0, *b1),
+            rest,
+        ),
         [k0, k1, ..] => from_kind(byte(*k0, *k1)),
         _ => Frame::Unknown,
     }
@@ -93,7 +112,11 @@ impl<'a> Frame<'a> {
         match self {
             Frame::Opening { heads: _, scale: _ } => Some(Kind::Opening),
             Frame::Head { head: _, setups: _ } => Some(Kind::Head),
-            Frame::Table { first: _, second: _, digits: _ } => Some(Kind::Table),
+            Frame::Table {
+                first: _,
+                second: _,
+                digits: _,
+            } => Some(Kind::Table),
             Frame::End => Some(Kind::End),
             Frame::Misshapen(kind) => Some(kind),
             Frame::Unknown => None,

@@ -34,7 +34,11 @@ fn scale_of_frame(frame: Frame) -> ScaleName
             }
         }
         Frame::Head { head: _, setups: _ } => ScaleName::Minutes,
-        Frame::Table { first: _, second: _, digits: _ } => ScaleName::Minutes,
+        Frame::Table {
+            first: _,
+            second: _,
+            digits: _,
+        } => ScaleName::Minutes,
         Frame::End => ScaleName::Minutes,
         Frame::Misshapen(_) => ScaleName::Minutes,
         Frame::Unknown => ScaleName::Minutes,

@@ -5,7 +5,7 @@ ghost use mathlib.Core.Logic.{_⊎_};
 ghost use Prim.Native.Nat.{_≤_};
 ghost use lib.ListN.{length, replicate};
 ghost use Rattle.std.specs.Vec.{made};
-ghost use Rattle.sheet.specs.Judgements.{Judged};
+ghost use Rattle.sheet.specs.Judgements.{Judged, Lays-out};
 ghost use Rattle.sheet.specs.Openings.{has-table-for};
 ghost use Rattle.sheet.specs.Steps.{Sound};
 ghost use Rattle.sheet.specs.Sheets.{sheet-read, sheet-laid, is-ended, Tells, Reads};
@@ -61,14 +61,23 @@ fn scan<S: Scale>(sheet: &[u8], costs: &mut [S]) -> Result<Progress, SheetRefusa
     ensures sound { λ r. ⌜ made r Sound ⌝ }
     ensures memory { λ r. ⌜ now (costs .exit) ≡ sheet-laid (S·Scale .coding) (now (sheet .entry)) (now (costs .entry)) ⌝ }
 {
-    let mut progress = Progress { stage: Stage::Start, heads: 0, known: 0, setups: [0; 8], tables: [false; 28] };
+    let mut progress = Progress {
+        stage: Stage::Start,
+        heads: 0,
+        known: 0,
+        setups: [0; 8],
+        tables: [false; 28],
+    };
     let mut rest = sheet;
     let mut number: u16 = 1;
     while !rest.is_empty() {
         let (line, after) = rest.split_at(first_length(rest));
         progress = match after_line(progress, line, costs) {
             Ok(next) => next,
-            Err(breach) => return Err(SheetRefusal { line: number, breach }),
+            Err(breach) => return Err(SheetRefusal {
+                line: number,
+                breach,
+            }),
         };
         rest = after;
         number += 1;
@@ -76,7 +85,10 @@ fn scan<S: Scale>(sheet: &[u8], costs: &mut [S]) -> Result<Progress, SheetRefusa
     if has_ended(progress.stage) {
         Ok(progress)
     } else {
-        Err(SheetRefusal { line: number, breach: Breach::NotDue })
+        Err(SheetRefusal {
+            line: number,
+            breach: Breach::NotDue,
+        })
     }
 }
 
@@ -95,7 +107,10 @@ fn told(progress: Progress) -> Contents
     ensures { λ r. ⌜ Tells progress r ⌝ }
 {
     match Job::new(&progress.setups[0..progress.heads as usize]) {
-        Ok(job) => Contents { job, tables: progress.tables },
+        Ok(job) => Contents {
+            job,
+            tables: progress.tables,
+        },
         Err(_) => unreachable(),
     }
 }
@@ -105,10 +120,16 @@ fn read_exactly<S: Scale>(sheet: &[u8], costs: &mut [S]) -> Result<Contents, She
     ensures { λ r. ⌜ Reads (S·Scale .scale) (S·Scale .coding) (now (sheet .entry)) (now (costs .entry)) r (now (costs .exit)) ⌝ }
 {
     if costs.len() < PLACES {
-        return Err(SheetRefusal { line: 0, breach: Breach::TooLittle });
+        return Err(SheetRefusal {
+            line: 0,
+            breach: Breach::TooLittle,
+        });
     }
     if sheet.len() > MOST_BYTES {
-        return Err(SheetRefusal { line: 0, breach: Breach::TooLong });
+        return Err(SheetRefusal {
+            line: 0,
+            breach: Breach::TooLong,
+        });
     }
     // a first pass into no memory finds every refusal, so that a refused sheet leaves all costs as they were
     let progress = match scan(sheet, &mut costs[0..0]) {
@@ -127,6 +148,7 @@ fn read_exactly<S: Scale>(sheet: &[u8], costs: &mut [S]) -> Result<Contents, She
 pub fn read<S: Scale>(sheet: &[u8], costs: &mut [S]) -> Result<Contents, SheetRefusal>
     ensures exact { λ r. ⌜ Reads (S·Scale .scale) (S·Scale .coding) (now (sheet .entry)) (now (costs .entry)) r (now (costs .exit)) ⌝ }
     ensures judged { λ r. ⌜ Judged (S·Scale .coding) (now (sheet .entry)) (length (now (costs .entry))) r ⌝ }
+    ensures laid { λ r. ⌜ Lays-out (S·Scale .scale) (S·Scale .coding) (now (sheet .entry)) (now (costs .entry)) r (now (costs .exit)) ⌝ }
 {
     read_exactly(sheet, costs)
 }

@@ -63,7 +63,11 @@ fn after_head<S: Scale>(s: Progress, head: u8, setups: u8) -> Result<Progress, B
     let mut t = s;
     t.setups[s.known as usize] = setups;
     t.known = known;
-    t.stage = if known < s.heads { Stage::Heads } else { Stage::Tables };
+    t.stage = if known < s.heads {
+        Stage::Heads
+    } else {
+        Stage::Tables
+    };
     Ok(t)
 }
 
@@ -89,11 +93,21 @@ fn shape_of<S: Scale>(s: Progress, first: u8, second: u8, digits: &[u8]) -> Opti
     if digits.len() != 2 * S::byte_count() * (columns * rows) {
         return None;
     }
-    Some(Shape { pair, rows, columns })
+    Some(Shape {
+        pair,
+        rows,
+        columns,
+    })
 }
 
 // Lays the entries of a table that has been found lawful out in `costs`, which has all places or none.
-fn after_table<S: Scale>(s: Progress, first: u8, second: u8, digits: &[u8], costs: &mut [S]) -> Result<Progress, Breach>
+fn after_table<S: Scale>(
+    s: Progress,
+    first: u8,
+    second: u8,
+    digits: &[u8],
+    costs: &mut [S],
+) -> Result<Progress, Breach>
     requires sound { ⌜ Sound s ⌝ }
     requires at { ⌜ s .stage ≡ At-tables ⌝ }
     requires room { ⌜ (length (now costs) ≡ 0) ⊎ (1792 ≤ length (now costs)) ⌝ }
@@ -101,7 +115,14 @@ fn after_table<S: Scale>(s: Progress, first: u8, second: u8, digits: &[u8], cost
     ensures sound { λ r. ⌜ made r Sound ⌝ }
     ensures memory { λ r. ⌜ Cases r (λ _. now (costs .exit) ≡ frame-laid (S·Scale .coding) s (Table-frame first second (now (digits .entry))) (now (costs .entry))) (λ _. now (costs .exit) ≡ now (costs .entry)) ⌝ }
 {
-    let Some(Shape { pair, rows, columns }) = shape_of::<S>(s, first, second, digits) else {
+    let Some(
+        Shape {
+            pair,
+            rows,
+            columns,
+        },
+    ) = shape_of::<S>(s, first, second, digits)
+    else {
         return Err(Breach::BadNumber);
     };
     if s.tables[pair] {
@@ -131,7 +152,11 @@ fn after_frame<S: Scale>(s: Progress, frame: Frame, costs: &mut [S]) -> Result<P
     match frame {
         Frame::Opening { heads, scale } => after_opening::<S>(s, heads, scale),
         Frame::Head { head, setups } => after_head::<S>(s, head, setups),
-        Frame::Table { first, second, digits } => after_table(s, first, second, digits, costs),
+        Frame::Table {
+            first,
+            second,
+            digits,
+        } => after_table(s, first, second, digits, costs),
         Frame::End => {
             let mut t = s;
             t.stage = Stage::Ended;
@@ -143,7 +168,11 @@ fn after_frame<S: Scale>(s: Progress, frame: Frame, costs: &mut [S]) -> Result<P
 }
 
 // What is known after one more line, with its 0A; its entries are laid out in `costs`, which has all places or none.
-pub(crate) fn after_line<S: Scale>(s: Progress, line: &[u8], costs: &mut [S]) -> Result<Progress, Breach>
+pub(crate) fn after_line<S: Scale>(
+    s: Progress,
+    line: &[u8],
+    costs: &mut [S],
+) -> Result<Progress, Breach>
     requires sound { ⌜ Sound s ⌝ }
     requires room { ⌜ (length (now costs) ≡ 0) ⊎ (1792 ≤ length (now costs)) ⌝ }
     ensures value { λ r. ⌜ r ≡ line-read (S·Scale .coding) s (now (line .entry)) ⌝ }

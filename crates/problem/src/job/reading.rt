@@ -42,7 +42,10 @@ impl Job {
         if counts.len() < 1 || counts.len() > 8 || !are_in_range(counts) {
             return Err(Refusal::BadNumber);
         }
-        Ok(Job { heads: counts.len() as u8, setups: padded(counts) })
+        Ok(Job {
+            heads: counts.len() as u8,
+            setups: padded(counts),
+        })
     }
 
     pub fn heads(&self) -> u8

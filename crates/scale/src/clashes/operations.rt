@@ -4,12 +4,13 @@ ghost use Rattle.scale.specs.ClashesModel.{clashes, clashes-of, clashes-bytes,
 use super::Clashes;
 use crate::scale::Scale;
 
-const NEVER: u16 = 1000;
+pub(crate) const NEVER: u16 = 1000;
 
 const MOST_MINUTES: u32 = 1_000_000_000;
 
 // the most that a sheet may have for a pair of setups, short of never
 const MOST_CLASHES_ENTERED: u16 = 10;
+
 const MOST_MINUTES_ENTERED: u32 = 1_000_000;
 
 impl Clashes {
@@ -66,11 +67,17 @@ pub impl Scale for Clashes as ClashesScale {
     }
 
     fn nothing() -> Clashes {
-        Clashes { clashes: 0, minutes: 0 }
+        Clashes {
+            clashes: 0,
+            minutes: 0,
+        }
     }
 
     fn never() -> Clashes {
-        Clashes { clashes: NEVER, minutes: MOST_MINUTES }
+        Clashes {
+            clashes: NEVER,
+            minutes: MOST_MINUTES,
+        }
     }
 
     fn join(self, other: Clashes) -> Clashes {
@@ -91,7 +98,8 @@ pub impl Scale for Clashes as ClashesScale {
     }
 
     fn is_enterable(self) -> bool {
-        self.clashes <= MOST_CLASHES_ENTERED && self.minutes <= MOST_MINUTES_ENTERED || self.clashes == NEVER
+        self.clashes <= MOST_CLASHES_ENTERED && self.minutes <= MOST_MINUTES_ENTERED
+            || self.clashes == NEVER
     }
 
     fn write(self, out: &mut [u8]) -> Option<usize> {

@@ -4,7 +4,7 @@ ghost use Rattle.scale.specs.MinutesModel.{minutes, minutes-of, minutes-bytes,
 use super::Minutes;
 use crate::scale::Scale;
 
-const NEVER: u32 = 1_000_000_000;
+pub(crate) const NEVER: u32 = 1_000_000_000;
 
 // the most that a sheet may have for a pair of setups, short of never
 const MOST_ENTERED: u32 = 1_000_000;
@@ -29,7 +29,11 @@ impl Minutes {
     fn to_bytes(self) -> [u8; 4]
         ensures { λ r. ⌜ r ≡ minutes-bytes self ⌝ }
     {
-        if self.value == NEVER { [255; 4] } else { self.value.to_be_bytes() }
+        if self.value == NEVER {
+            [255; 4]
+        } else {
+            self.value.to_be_bytes()
+        }
     }
 }
 
@@ -58,7 +62,9 @@ pub impl Scale for Minutes as MinutesScale {
 
     fn join(self, other: Minutes) -> Minutes {
         let sum = self.value + other.value;
-        Minutes { value: sum.min(NEVER) }
+        Minutes {
+            value: sum.min(NEVER),
+        }
     }
 
     fn at_most(self, other: Minutes) -> bool {

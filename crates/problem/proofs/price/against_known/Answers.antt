@@ -17,4 +17,4 @@ against-range-requires g c κs =
     let range = head-range j h (omega arith) in
     let free : (k : ℕ) → named q k ≡ mathlib.Core.Bool.true → h ≡ k → ⊥ = λ k y e. both-ways (named q k) (ap (named q) (sym e) ∙ c .pre .asked .1) y in
     subst (λ (n : ℕ). Comparable (c .args .costs .now) q h (c .args .setup) 1 (n + 1)) (sym (c .heads .ensures))
-      (comparable j (c .args .costs .now) q h (c .args .setup) 1 (c .pre .readable) (range .0) (omega (arith, j .eight)) (omega (arith, setups-few j h)) (omega arith) (λ k l y e. free k y e))
+    (comparable j (c .args .costs .now) q h (c .args .setup) 1 (c .pre .readable) (range .0) (omega (arith, j .eight)) (omega (arith, setups-few j h)) (omega arith) (λ k l y e. free k y e))

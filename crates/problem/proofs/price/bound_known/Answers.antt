@@ -21,9 +21,10 @@ loop-setup-again g c =
     let cost = c .against-known-cost .result in
     let least = c .loop-setup .least in
     let chosen : c .if-not-at-most .least ≡ lesser s least cost =
-      elim (c .if-not-at-most .came) [
-        then-not-at-most w ↦ w .least-is ∙ ap (λ (b : Bool). cond b least cost) (w .if-not-at-most .ensures tt)
-      | else-not-at-most w ↦ w .least-is ∙ ap (λ (b : Bool). cond b least cost) (w .if-not-at-most .ensures tt) ] in
+    elim (c .if-not-at-most .came) [
+      | then-not-at-most w ↦ w .least-is ∙ ap (λ (b : Bool). cond b least cost) (w .if-not-at-most .ensures tt)
+      | else-not-at-most w ↦ w .least-is ∙ ap (λ (b : Bool). cond b least cost) (w .if-not-at-most .ensures tt)
+    ] in
     let is = chosen ∙ ap (lesser s least) (c .against-known-cost .ensures) in
     simp is (least-step (g .S·Scale·met .lawful) (λ i. against s (c .args .costs .now) (c .args .job .now) (c .args .head) i (c .args .plan .now)) (c .loop-setup .setup) (setups (c .args .job .now) (c .args .head)) least _ (c .loop-setup .inv) (omega arith))
 

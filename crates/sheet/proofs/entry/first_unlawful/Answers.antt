@@ -19,8 +19,7 @@ loop-j-again g c =
     let total = columns * c .args .rows in
     let k = columns * c .rows .i + c .loop-j .j in
     let lt : k < total = omega (arith, mul-add-lt (c .rows .i) columns (c .loop-j .j) (c .args .rows) (c .rows-test .taken) (c .loop-j-test .taken)) in
-    let next : k + 1 ≡ columns * c .rows .i + (c .loop-j .j + 1) = omega arith in
-    (
+    let next : k + 1 ≡ columns * c .rows .i + (c .loop-j .j + 1) = omega arith in (
       c .loop-j .inv .0,
       c .loop-j .inv .1 ∙ fails-on good k total lt (ap isSome (sym (c .entry .ensures)) ∙ c .if-is-none .ensures tt) ∙ ap (λ (m : ℕ). first-fails good m (total - m)) next,
     )

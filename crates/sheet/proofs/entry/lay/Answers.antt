@@ -19,8 +19,8 @@ loop-j-again g c =
     let base = 64 * c .args .p + 8 * c .loop-i .i in
     row-more row base (c .loop-j .j) (c .loop-i .costs) (c .loop-j .costs) (c .match-entry .costs) (c .entry .result) (c .loop-j .inv) (c .entry .ensures)
     (elim (c .match-entry .came) [
-      in-Some w ↦ w .costs-is ∙ ap (λ o. put row o (base + c .loop-j .j) (c .loop-j .costs)) (sym (w .in-Some .is))
-    | in-rest w ↦ w .costs-is ∙ ap (λ o. put row o (base + c .loop-j .j) (c .loop-j .costs)) (sym (w .in-rest .is))
+      | in-Some w ↦ w .costs-is ∙ ap (λ o. put row o (base + c .loop-j .j) (c .loop-j .costs)) (sym (w .in-Some .is))
+      | in-rest w ↦ w .costs-is ∙ ap (λ o. put row o (base + c .loop-j .j) (c .loop-j .costs)) (sym (w .in-rest .is))
     ])
 
 pub loop-i-again : need.loop-i-again

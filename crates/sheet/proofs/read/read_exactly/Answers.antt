@@ -37,4 +37,4 @@ returns g c =
     let long : length (take 1792 (c .scan .last .costs ++ c .args .costs .now)) ≡ 1792 = length-take-le 1792 _ (rw same (omega arith)) in
     let cleared : c .clear .last .costs ≡ replicate 1792 none = c .clear .ensures ∙ ap (λ (n : ℕ). replicate n none) long in
     granted (c .in-Ok .progress) (c .told .result) (omega arith) (omega arith) (sym (c .in-Ok .ensures tt .value)) (c .told .ensures) refl
-      (ap₂ _++_ (c .scan-2 .ensures .memory ∙ ap (sheet-laid (g .S·Scale .coding) (c .args .sheet .now)) cleared) (ap (drop 1792) same))
+    (ap₂ _++_ (c .scan-2 .ensures .memory ∙ ap (sheet-laid (g .S·Scale .coding) (c .args .sheet .now)) cleared) (ap (drop 1792) same))

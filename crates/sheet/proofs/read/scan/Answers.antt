@@ -36,8 +36,7 @@ pub loop-rest-again : need.loop-rest-again
 loop-rest-again g c =
     let whole = parts g (need.at·loop-rest-again g c .After-split-at) in
     let coding = g .S·Scale .coding in
-    let some = length-some (c .loop-rest .rest .now) (sym (c .loop-rest-test .ensures tt)) in
-    (
+    let some = length-some (c .loop-rest .rest .now) (sym (c .loop-rest-test .ensures tt)) in (
       c .in-Ok .ensures tt .sound,
       omega arith,
       sym (read-on coding (c .loop-rest .number) (c .loop-rest .progress) (c .loop-rest .rest .now) _ (c .split-at .result .1 .now) whole (c .in-Ok .next) (c .in-Ok .ensures tt .value)) ∙ c .loop-rest .inv .2,

@@ -23,8 +23,9 @@ returns g c =
     let below : s .known < s .heads = subst (λ (stage : Stage). Staged stage (s .heads) (s .known)) (c .pre .at) (c .pre .sound .staged) in
     let room : length (s .setups) ≡ 8 = search needs in
     let is : c .if-known-s .t ≡ stage-after (s .known + 1) (s .heads) = elim (c .if-known-s .came) [
-        then-known-s w ↦ w .t-is ∙ sym (cond-true _ _ _ (lt-ltb _ _ (w .if-known-s .taken)))
-      | else-known-s w ↦ w .t-is ∙ sym (cond-false _ _ _ (le-ltb _ _ (w .if-known-s .left))) ] in
+      | then-known-s w ↦ w .t-is ∙ sym (cond-true _ _ _ (lt-ltb _ _ (w .if-known-s .taken)))
+      | else-known-s w ↦ w .t-is ∙ sym (cond-false _ _ _ (le-ltb _ _ (w .if-known-s .left)))
+    ] in
     let fits : head-fits (g .S·Scale .coding) s (c .args .head) d ≡ true = and-from _ _ (eq-eqb _ _ (omega arith)) (and-from _ _ (le-leb 1 d (omega arith)) (le-leb d 8 (omega arith))) in
     record {
       value = ap (λ (stage : Stage). Ok (at-stage s d stage)) is ∙ sym (cond-true _ _ _ fits);

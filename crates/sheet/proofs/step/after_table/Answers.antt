@@ -32,8 +32,9 @@ returns g c =
     let sh = c .in-Some .field-0 in
     let e = entry (g .S·Scale .coding) (c .args .digits .now) in
     let laid : c .if-costs-ge-PLACES .costs ≡ table-laid e (sh .columns) (sh .pair) (sh .rows) (c .args .costs .now) = elim (c .if-costs-ge-PLACES .came) [
-        then-costs-ge-PLACES w ↦ w .costs-is ∙ w .lay .ensures
-      | else-costs-ge-PLACES w ↦ w .costs-is ∙ laid-somewhere e (sh .columns) (sh .pair) (sh .rows) (c .args .costs .now) (c .pre .room) (w .if-costs-ge-PLACES .left) ] in
+      | then-costs-ge-PLACES w ↦ w .costs-is ∙ w .lay .ensures
+      | else-costs-ge-PLACES w ↦ w .costs-is ∙ laid-somewhere e (sh .columns) (sh .pair) (sh .rows) (c .args .costs .now) (c .pre .room) (w .if-costs-ge-PLACES .left)
+    ] in
     record {
       value = table-accepted (g .S·Scale .coding) (c .args .s) (c .args .first) (c .args .second) (c .args .digits .now) sh f (c .if-s-pair .left) (sym (c .in-rest-first-unlawful .ensures tt));
       sound = record { few = c .pre .sound .few; staged = c .pre .sound .staged; each = c .pre .sound .each; rest = c .pre .sound .rest };

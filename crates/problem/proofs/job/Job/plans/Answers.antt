@@ -16,8 +16,7 @@ mul-product c =
 pub loop-k-again : need.loop-k-again
 loop-k-again c =
     let j = c .args .self .now in
-    let k = c .loop-k .k in
-    (
+    let k = c .loop-k .k in (
       power-step (c .loop-k .product) (getD (j .setups) k 0) k (c .loop-k .inv .0) (j .few k),
       mul-assoc (c .loop-k .product) (getD (j .setups) k 0) _ ∙ ap (λ (x : ℕ). c .loop-k .product * x) (sym (product-step j (j .heads) k (omega arith))) ∙ c .loop-k .inv .1,
     )

@@ -35,7 +35,7 @@ returns-then-is-end-line c =
 pub returns-in-rest : need.returns-in-rest
 returns-in-rest c =
     elim (c .in-rest .came) [
-      in-rest·by·then-line-lt1 w ↦ endless (c .args .line .now) (grind (arith, tells))
-    | in-rest·by·in-10·else-are-digits w ↦ digitless (c .args .line .now) (sym (w .if-are-digits .ensures tt))
-    | in-rest·by·else-line-lt1·in-rest· w ↦ endless (c .args .line .now) (grind (arith, tells))
+      | in-rest·by·then-line-lt1 w ↦ endless (c .args .line .now) (grind (arith, tells))
+      | in-rest·by·in-10·else-are-digits w ↦ digitless (c .args .line .now) (sym (w .if-are-digits .ensures tt))
+      | in-rest·by·else-line-lt1·in-rest· w ↦ endless (c .args .line .now) (grind (arith, tells))
     ]

@@ -1,0 +1,2 @@
+pub mod Completing
+pub mod Parsing
