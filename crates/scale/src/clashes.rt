@@ -12,5 +12,6 @@ pub struct Clashes {
     ghost full: { (999 < clashes → minutes ≡ 1000000000) },
 }
 
+pub mod numbers;
 pub mod operations;
 pub mod words;

@@ -8,5 +8,6 @@ pub struct Minutes {
     ghost ok: { value ≤ 1000000000 },
 }
 
+pub mod numbers;
 pub mod operations;
 pub mod words;

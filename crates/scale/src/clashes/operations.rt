@@ -1,12 +1,12 @@
 // Clashes first, as a scale: number 02, two bytes of clashes and four of minutes.
 ghost use mathlib.Core.Path.{_≡_};
-ghost use Rattle.scale.specs.ClashesModel.{clashes, clashes-of, clashes-bytes, clashes-coding};
+ghost use Rattle.scale.specs.ClashesModel.{clashes, clashes-bytes, clashes-coding};
 use super::Clashes;
 use crate::scale::Scale;
 
 pub(crate) const NEVER: u16 = 1000;
 
-const MOST_MINUTES: u32 = 1_000_000_000;
+pub(crate) const MOST_MINUTES: u32 = 1_000_000_000;
 
 // the most that a sheet may have for a pair of setups, short of never
 const MOST_CLASHES_ENTERED: u16 = 10;
@@ -14,31 +14,6 @@ const MOST_CLASHES_ENTERED: u16 = 10;
 const MOST_MINUTES_ENTERED: u32 = 1_000_000;
 
 impl Clashes {
-    // So many clashes and minutes, or `None` where there is no such value.
-    pub fn new(clashes: u16, minutes: u32) -> Option<Clashes>
-        ensures { λ r. ⌜ r ≡ clashes-of clashes minutes ⌝ }
-    {
-        if clashes > NEVER || minutes > MOST_MINUTES {
-            return None;
-        }
-        if clashes == NEVER && minutes < MOST_MINUTES {
-            return None;
-        }
-        Some(Clashes { clashes, minutes })
-    }
-
-    pub fn clashes(self) -> u16
-        ensures { λ r. ⌜ r ≡ self .clashes ⌝ }
-    {
-        self.clashes
-    }
-
-    pub fn minutes(self) -> u32
-        ensures { λ r. ⌜ r ≡ self .minutes ⌝ }
-    {
-        self.minutes
-    }
-
     fn to_bytes(self) -> [u8; 6]
         ensures { λ r. ⌜ r ≡ clashes-bytes self ⌝ }
     {

@@ -1,6 +1,6 @@
 // Minutes as a scale: number 01, four bytes.
 ghost use mathlib.Core.Path.{_≡_};
-ghost use Rattle.scale.specs.MinutesModel.{minutes, minutes-of, minutes-bytes, minutes-coding};
+ghost use Rattle.scale.specs.MinutesModel.{minutes, minutes-bytes, minutes-coding};
 use super::Minutes;
 use crate::scale::Scale;
 
@@ -10,22 +10,6 @@ pub(crate) const NEVER: u32 = 1_000_000_000;
 const MOST_ENTERED: u32 = 1_000_000;
 
 impl Minutes {
-    // So many minutes, or `None` past 1,000,000,000.
-    pub fn new(value: u32) -> Option<Minutes>
-        ensures { λ r. ⌜ r ≡ minutes-of value ⌝ }
-    {
-        if value > NEVER {
-            return None;
-        }
-        Some(Minutes { value })
-    }
-
-    pub fn value(self) -> u32
-        ensures { λ r. ⌜ r ≡ self .value ⌝ }
-    {
-        self.value
-    }
-
     fn to_bytes(self) -> [u8; 4]
         ensures { λ r. ⌜ r ≡ minutes-bytes self ⌝ }
     {
