@@ -1,10 +1,7 @@
 pub mod Bags
-pub mod Counts
 pub mod Joins
-pub mod Lists
 pub mod Naming
 pub mod Places
 pub mod Pruning
-pub mod Readings
 pub mod Walks
 pub mod Weights

@@ -15,16 +15,16 @@ use Rattle.std.proofs.shelf.Lists.{getD-set-same, getD-set-other}
 use Rattle.std.proofs.shelf.Tests.{cases-bool, cases-eq, cond-true, cond-false, not-from-true, not-from-false, lt-ltb, both-ways}
 use Rattle.std.proofs.shelf.Ways.{tells}
 use Rattle.scale.specs.Operations.{Operations, Laws}
-use Rattle.problem.specs.declared.job.Job.{Job}
-use Rattle.problem.specs.declared.plan.Plan.{Plan}
-use Rattle.problem.specs.Lists.{those}
+use Rattle.job.specs.declared.job.Job.{Job}
+use Rattle.job.specs.declared.plan.Plan.{Plan}
+use Rattle.job.specs.Lists.{those}
 use Rattle.problem.specs.Bags.{Out, here, there, Same, none, one}
-use Rattle.problem.specs.Plans.{heads, setups, setup, named, name, named-heads, unnamed-heads}
+use Rattle.job.specs.Plans.{heads, setups, setup, named, name, named-heads, unnamed-heads}
 use Rattle.problem.specs.Costs.{between, as-named}
 use Rattle.problem.specs.Pruning.{Naming-joins-costs}
 use Rattle.problem.proofs.Bags.{out-middle}
 use Rattle.problem.proofs.Joins.{joined-like, joined-pairs-like, joined-pairs-out}
-use Rattle.problem.proofs.Readings.{setup-within}
+use Rattle.job.proofs.Readings.{setup-within}
 
 module _ {X : Type 0} where
   -- a member that passes a test, and one that fails it

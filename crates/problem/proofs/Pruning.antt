@@ -10,9 +10,9 @@ use Rattle.std.specs.shelf.Lists.{All}
 use Rattle.std.proofs.shelf.Elements.{all-weaker}
 use Rattle.std.proofs.shelf.Tests.{cases-eq, lt-ltb}
 use Rattle.scale.specs.Operations.{Operations, Laws, AtMost}
-use Rattle.problem.specs.declared.job.Job.{Job}
-use Rattle.problem.specs.declared.plan.Plan.{Plan}
-use Rattle.problem.specs.Plans.{heads, setups, setup, named, name, named-heads, unnamed-heads, Complete}
+use Rattle.job.specs.declared.job.Job.{Job}
+use Rattle.job.specs.declared.plan.Plan.{Plan}
+use Rattle.job.specs.Plans.{heads, setups, setup, named, name, named-heads, unnamed-heads, Complete}
 use Rattle.problem.specs.Costs.{joined, joined-pairs, between, as-named, against, plan-cost, bound}
 use Rattle.problem.specs.Pruning.{Pruning-is-safe, Children-cover}
 use Rattle.problem.proofs.Joins.{joined-like, joined-pairs-like, joined-pairs-same, joined-pairs-grow, joined-at-most, least-at-most, monotone-right}

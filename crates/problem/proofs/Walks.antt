@@ -13,14 +13,14 @@ use Rattle.std.specs.declared.option.Option.{Option}
 use Rattle.std.specs.declared.option.Option.the-variants.{Some, None}
 use Rattle.std.proofs.shelf.Tests.{cases-bool, cases-lt, and-parts, or-cases, cond-true, cond-false, ltb-true, leb-true, not-true, both-ways}
 use Rattle.scale.specs.Operations.{Operations, Laws, AtMost}
-use Rattle.problem.specs.declared.job.Job.{Job}
-use Rattle.problem.specs.declared.plan.Plan.{Plan}
-use Rattle.problem.specs.Lists.{those, every}
-use Rattle.problem.specs.Plans.{setup, setups, named, setup-named, is-head, is-setup, is-of-job}
+use Rattle.job.specs.declared.job.Job.{Job}
+use Rattle.job.specs.declared.plan.Plan.{Plan}
+use Rattle.job.specs.Lists.{those, every}
+use Rattle.job.specs.Plans.{setup, setups, named, setup-named, is-head, is-setup, is-of-job}
 use Rattle.problem.specs.Costs.{joined, joined-pairs, lesser, least, against-those, as-named, between, Readable, Comparable}
 use Rattle.problem.proofs.Joins.{neutral-right, lesser-associative, lesser-never-right}
 use Rattle.problem.proofs.Naming.{those-passes, those-fails, setups-few}
-use Rattle.problem.proofs.Readings.{setup-none}
+use Rattle.job.proofs.Readings.{setup-none}
 
 -- the numbers from a up to, and without, z
 pub counting-step : (a z : ℕ) → a < z → counting a (z - a) ≡ a ∷ counting (a + 1) (z - (a + 1))

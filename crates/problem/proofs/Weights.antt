@@ -16,14 +16,14 @@ use Rattle.std.proofs.shelf.Elements.{all-map}
 use Rattle.std.proofs.shelf.Lists.{getD-replicate}
 use Rattle.std.proofs.shelf.Sums.{sumBy-cons}
 use Rattle.std.proofs.shelf.Tests.{cases-eq, not-from-false}
-use Rattle.problem.specs.declared.job.Job.{Job}
-use Rattle.problem.specs.declared.plan.Plan.{Plan}
+use Rattle.job.specs.declared.job.Job.{Job}
+use Rattle.job.specs.declared.plan.Plan.{Plan}
 use Rattle.problem.specs.Bags.{Out, here, there}
-use Rattle.problem.specs.Plans.{heads, setups, product, empty, named, name, unnamed-heads}
+use Rattle.job.specs.Plans.{heads, setups, product, empty, named, name, unnamed-heads}
 use Rattle.problem.specs.Weights.{share, completions, weight, children, Expanding-fits, Roots-weigh}
 use Rattle.problem.proofs.Bags.{out-length}
 use Rattle.problem.proofs.Naming.{all-those, those-all, those-like, all-counting, setups-few, named-name-same, named-name-other, out-unnamed}
-use Rattle.problem.proofs.Readings.{setup-within}
+use Rattle.job.proofs.Readings.{setup-within}
 
 pub sumBy-constant : {X : Type 0} (f : X → ℕ) (w : ℕ) (xs : List X) → All (λ x. f x ≡ w) xs → sumBy f xs ≡ length xs * w
 sumBy-constant f w [] h = omega arith

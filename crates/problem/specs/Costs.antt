@@ -11,12 +11,12 @@ use Rattle.std.specs.declared.option.Option.the-variants.{Some, None}
 use Rattle.std.specs.declared.result.Result.{Result}
 use Rattle.std.specs.declared.result.Result.the-variants.{Ok, Err}
 use Rattle.scale.specs.Operations.{Operations}
-use Rattle.problem.specs.declared.refusal.Refusal.{Refusal}
-use Rattle.problem.specs.declared.refusal.Refusal.the-variants.{BadNumber, TooLittle}
-use Rattle.problem.specs.declared.job.Job.{Job}
-use Rattle.problem.specs.declared.plan.Plan.{Plan}
-use Rattle.problem.specs.Lists.{those}
-use Rattle.problem.specs.Plans.{setups, setup, named, named-heads, is-head, is-setup, is-of-job}
+use Rattle.job.specs.declared.refusal.Refusal.{Refusal}
+use Rattle.job.specs.declared.refusal.Refusal.the-variants.{BadNumber, TooLittle}
+use Rattle.job.specs.declared.job.Job.{Job}
+use Rattle.job.specs.declared.plan.Plan.{Plan}
+use Rattle.job.specs.Lists.{those}
+use Rattle.job.specs.Plans.{setups, setup, named, named-heads, is-head, is-setup, is-of-job}
 
 -- the number of the pair of the heads a < b, from 0 to 27, in the order (1,2), (1,3) to (7,8)
 abbrev pub pair : ℕ → ℕ → ℕ

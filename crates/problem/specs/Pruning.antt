@@ -6,9 +6,9 @@ use mathlib.Core.List.{List}
 use Prim.Native.Nat.{ℕ, _<_, _≤_}
 use lib.ListN.{length}
 use Rattle.scale.specs.Operations.{Operations, AtMost}
-use Rattle.problem.specs.declared.job.Job.{Job}
-use Rattle.problem.specs.declared.plan.Plan.{Plan}
-use Rattle.problem.specs.Plans.{setups, setup, named, name, unnamed-heads, Extends}
+use Rattle.job.specs.declared.job.Job.{Job}
+use Rattle.job.specs.declared.plan.Plan.{Plan}
+use Rattle.job.specs.Plans.{setups, setup, named, name, unnamed-heads, Extends}
 use Rattle.problem.specs.Costs.{joined, against, plan-cost, bound}
 
 module _ {S : Type 0} (s : Operations S) where

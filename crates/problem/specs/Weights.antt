@@ -7,9 +7,9 @@ use Prim.Native.Nat.{ℕ, _+_, _*_, _-_, _≤_}
 use lib.ListN.{length}
 use Rattle.std.specs.Iters.{counting}
 use Rattle.std.specs.shelf.Lists.{sumBy}
-use Rattle.problem.specs.declared.job.Job.{Job}
-use Rattle.problem.specs.declared.plan.Plan.{Plan}
-use Rattle.problem.specs.Plans.{setups, plans, product, empty, named, name, unnamed-heads}
+use Rattle.job.specs.declared.job.Job.{Job}
+use Rattle.job.specs.declared.plan.Plan.{Plan}
+use Rattle.job.specs.Plans.{setups, plans, product, empty, named, name, unnamed-heads}
 
 -- what one completion of a plan with m heads to name costs at most, among n heads
 abbrev pub share : ℕ → ℕ → ℕ

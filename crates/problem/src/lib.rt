@@ -1,7 +1,4 @@
-// The problem: jobs, plans, what plans cost, and the mathematics on which the search rests.
-pub mod job;
+// The problem: where costs lie, what plans cost, and the mathematics on which the search rests.
 pub mod place;
-pub mod plan;
 pub mod price;
-pub mod refusal;
 pub mod theorems;

@@ -5,13 +5,13 @@ ghost use mathlib.Core.Logic.{_≢_};
 ghost use Prim.Native.Nat.{_+_, _-_, _<_, _≤_};
 ghost use lib.ListN.{length};
 ghost use Rattle.std.specs.Iters.{counting};
-ghost use Rattle.problem.specs.Plans.{named, is-head, is-setup, is-of-job};
+ghost use Rattle.job.specs.Plans.{named, is-head, is-setup, is-of-job};
 ghost use Rattle.problem.specs.Costs.{between as between-setups, as-named, against-those, against as against-named, plan-cost, bound as bound-of, Readable, Comparable, priced, may-ask-setup, may-ask-head, may-ask-pair};
-use crate::job::Job;
 use crate::place::PLACES;
 use crate::place::place_known;
-use crate::plan::Plan;
-use crate::refusal::Refusal;
+use job::job::Job;
+use job::plan::Plan;
+use job::refusal::Refusal;
 use scale::scale::Scale;
 
 // What setup i of head h and setup k of head g cost each other.

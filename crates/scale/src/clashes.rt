@@ -3,7 +3,7 @@ ghost use mathlib.Core.Path.{_≡_};
 ghost use Prim.Native.Nat.{ℕ, _≤_, _<_};
 
 // 0 to 999 clashes, each with 0 to 1,000,000,000 minutes; or never, which is 1,000 clashes with 1,000,000,000 minutes.
-#[derive(Clone, Copy, PartialEq, Eq, Debug)]
+#[derive(Clone, Copy)]
 pub struct Clashes {
     clashes: u16,
     minutes: u32,

@@ -2,7 +2,7 @@
 ghost use Prim.Native.Nat.{ℕ, _≤_};
 
 // 0 to 1,000,000,000 minutes; the last is never.
-#[derive(Clone, Copy, PartialEq, Eq, Debug)]
+#[derive(Clone, Copy)]
 pub struct Minutes {
     value: u32,
     ghost ok: { value ≤ 1000000000 },

@@ -18,11 +18,11 @@ use Rattle.scale.specs.Operations.{Operations}
 use Rattle.scale.specs.Coding.{Coding}
 use Rattle.problem.specs.Bags.{Out, here, there}
 use Rattle.problem.specs.Costs.{pair, place}
-use Rattle.problem.specs.Plans.{setups}
-use Rattle.problem.specs.declared.job.Job.{Job}
+use Rattle.job.specs.Plans.{setups}
+use Rattle.job.specs.declared.job.Job.{Job}
 use Rattle.problem.proofs.Naming.{setups-few}
 use Rattle.problem.proofs.Places.{pair-within}
-use Rattle.problem.proofs.Readings.{setups-read}
+use Rattle.job.proofs.Readings.{setups-read}
 use Rattle.sheet.specs.declared.breach.Breach.{Breach}
 use Rattle.sheet.specs.declared.frame.Kind.the-variants.{Opening, Head, Table}
 use Rattle.sheet.specs.declared.breach.SheetRefusal.{SheetRefusal}

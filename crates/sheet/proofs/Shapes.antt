@@ -13,8 +13,8 @@ use Rattle.std.specs.declared.option.Option.{Option}
 use Rattle.std.specs.declared.option.Option.the-variants.{Some, None}
 use Rattle.scale.specs.Coding.{Coding}
 use Rattle.problem.specs.Costs.{pair, is-pair}
-use Rattle.problem.specs.Plans.{are-counts}
-use Rattle.problem.proofs.Lists.{every-at-places}
+use Rattle.job.specs.Plans.{are-counts}
+use Rattle.job.proofs.Lists.{every-at-places}
 use Rattle.problem.proofs.Places.{pair-within}
 use Rattle.sheet.specs.declared.progress.Progress.{Progress}
 use Rattle.sheet.specs.declared.progress.Stage.{Stage}

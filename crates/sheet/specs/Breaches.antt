@@ -1,6 +1,6 @@
 -- Which refusal stands for a rule that a sheet breaks. Assumes nothing.
-use Rattle.problem.specs.declared.refusal.Refusal.{Refusal}
-use Rattle.problem.specs.declared.refusal.Refusal.the-variants.{TooLong as Is-too-long, TooLittle as Is-too-little, BadLine as Is-bad-line, NotDue as Is-not-due, BadNumber as Is-bad-number, SecondTable as Is-second-table, BadEntry as Is-bad-entry}
+use Rattle.job.specs.declared.refusal.Refusal.{Refusal}
+use Rattle.job.specs.declared.refusal.Refusal.the-variants.{TooLong as Is-too-long, TooLittle as Is-too-little, BadLine as Is-bad-line, NotDue as Is-not-due, BadNumber as Is-bad-number, SecondTable as Is-second-table, BadEntry as Is-bad-entry}
 use Rattle.sheet.specs.declared.breach.Breach.{Breach}
 use Rattle.sheet.specs.declared.breach.Breach.the-variants.{TooLong, TooLittle, BadLine, NotDue, BadNumber, SecondTable, BadEntry}
 

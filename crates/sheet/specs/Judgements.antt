@@ -15,8 +15,8 @@ use Rattle.scale.specs.Operations.{Operations}
 use Rattle.scale.specs.Coding.{Coding}
 use Rattle.problem.specs.Bags.{Out}
 use Rattle.problem.specs.Costs.{pair, place}
-use Rattle.problem.specs.Plans.{setups}
-use Rattle.problem.specs.declared.job.Job.{Job}
+use Rattle.job.specs.Plans.{setups}
+use Rattle.job.specs.declared.job.Job.{Job}
 use Rattle.sheet.specs.declared.breach.Breach.{Breach}
 use Rattle.sheet.specs.declared.breach.Breach.the-variants.{TooLong, TooLittle, BadLine, NotDue, BadNumber, SecondTable, BadEntry}
 use Rattle.sheet.specs.declared.breach.SheetRefusal.{SheetRefusal}

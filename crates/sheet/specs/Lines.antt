@@ -6,7 +6,7 @@ use Prim.Native.Nat.{ℕ, min, _+_, _-_, _%_}
 use lib.Dec.{eqb, leb}
 use lib.ListN.{length, getD, take}
 use Rattle.std.specs.shelf.Lists.{leading}
-use Rattle.problem.specs.Lists.{every}
+use Rattle.job.specs.Lists.{every}
 use Rattle.sheet.specs.Hex.{is-digit}
 
 -- the pieces of the bytes, each up to its 0A; the last may have none

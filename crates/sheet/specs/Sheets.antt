@@ -11,7 +11,7 @@ use Rattle.std.specs.declared.result.Result.{Result}
 use Rattle.std.specs.declared.result.Result.the-variants.{Ok, Err}
 use Rattle.scale.specs.Operations.{Operations}
 use Rattle.scale.specs.Coding.{Coding}
-use Rattle.problem.specs.Plans.{Job-of}
+use Rattle.job.specs.Plans.{Job-of}
 use Rattle.sheet.specs.declared.breach.Breach.{Breach}
 use Rattle.sheet.specs.declared.breach.Breach.the-variants.{TooLong, TooLittle, NotDue}
 use Rattle.sheet.specs.declared.breach.SheetRefusal.{SheetRefusal}

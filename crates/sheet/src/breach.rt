@@ -1,9 +1,9 @@
 // The rules that a sheet can break.
 ghost use mathlib.Core.Path.{_≡_};
 ghost use Rattle.sheet.specs.Breaches.{refusal as refusal-of};
-use problem::refusal::Refusal;
+use job::refusal::Refusal;
 
-#[derive(Clone, Copy, PartialEq, Eq, Debug)]
+#[derive(Clone, Copy)]
 pub enum Breach {
     // more than 24,000 bytes
     TooLong,
@@ -38,7 +38,7 @@ impl Breach {
 }
 
 // A rule with the number of the line that breaks it, from 1; line 0 is the sheet as a whole.
-#[derive(Clone, Copy, PartialEq, Eq, Debug)]
+#[derive(Clone, Copy)]
 pub struct SheetRefusal {
     pub line: u16,
     pub breach: Breach,

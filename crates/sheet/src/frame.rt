@@ -9,7 +9,7 @@ use crate::hex::byte;
 use crate::line::are_digits;
 
 // The first byte of a frame: 01, 02, 03 and 04.
-#[derive(Clone, Copy, PartialEq, Eq, Debug)]
+#[derive(Clone, Copy)]
 pub enum Kind {
     Opening,
     Head,
@@ -106,7 +106,7 @@ impl<'a> Frame<'a> {
         }
     }
 
-    pub fn kind(self) -> Option<Kind>
+    pub(crate) fn kind(self) -> Option<Kind>
         ensures { λ r. ⌜ r ≡ kind-of (said (self .entry)) ⌝ }
     {
         match self {

@@ -4,7 +4,7 @@ ghost use Prim.Native.Nat.{_<_};
 ghost use Rattle.sheet.specs.Hex.{is-digit as is-hexadecimal, digit as digit-value, byte as byte-value};
 
 // Whether `b` is one of 0-9 and A-F.
-pub fn is_digit(b: u8) -> bool
+pub(crate) fn is_digit(b: u8) -> bool
     ensures { λ r. ⌜ r ≡ is-hexadecimal b ⌝ }
 {
     matches!(b, b'0'..=b'9' | b'A'..=b'F')
@@ -23,7 +23,7 @@ fn digit(b: u8) -> u8
 }
 
 // The byte that two digits write.
-pub fn byte(high: u8, low: u8) -> u8
+pub(crate) fn byte(high: u8, low: u8) -> u8
     ensures { λ r. ⌜ r ≡ byte-value high low ⌝ }
 {
     16 * digit(high) + digit(low)

@@ -2,7 +2,7 @@
 ghost use mathlib.Core.Path.{_≡_};
 ghost use Prim.Native.Nat.{_<_, _≤_};
 ghost use lib.ListN.{length};
-ghost use Rattle.problem.specs.Lists.{every};
+ghost use Rattle.job.specs.Lists.{every};
 ghost use Rattle.sheet.specs.Hex.{is-digit as is-hexadecimal};
 ghost use Rattle.sheet.specs.Lines.{are-digits, line-length};
 use crate::hex::is_digit;
@@ -34,7 +34,7 @@ fn all_digits(digits: &[u8]) -> bool
 }
 
 // Whether these are the digits of a line.
-pub fn are_digits(digits: &[u8]) -> bool
+pub(crate) fn are_digits(digits: &[u8]) -> bool
     ensures { λ r. ⌜ r ≡ are-digits (now (digits .entry)) ⌝ }
 {
     digits.len() >= 2 && digits.len() <= MOST_DIGITS && digits.len() % 2 == 0 && all_digits(digits)

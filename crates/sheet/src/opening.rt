@@ -5,7 +5,7 @@ ghost use Rattle.sheet.specs.Openings.{number as scale-number, scale-said, sca
 use crate::frame::Frame;
 use crate::line::first_length;
 
-#[derive(Clone, Copy, PartialEq, Eq, Debug)]
+#[derive(Clone, Copy)]
 pub enum ScaleName {
     Minutes,
     Clashes,

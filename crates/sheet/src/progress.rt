@@ -1,5 +1,5 @@
 // What has been read of a sheet so far.
-#[derive(Clone, Copy, PartialEq, Eq, Debug)]
+#[derive(Clone, Copy)]
 pub enum Stage {
     // nothing yet: the opening is due
     Start,

@@ -15,7 +15,7 @@ use crate::line::first_length;
 use crate::progress::Progress;
 use crate::progress::Stage;
 use crate::step::after_line;
-use problem::job::Job;
+use job::job::Job;
 use problem::place::PLACES;
 use problem::place::pair;
 use scale::scale::Scale;

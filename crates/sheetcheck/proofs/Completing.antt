@@ -12,11 +12,11 @@ use Rattle.std.specs.declared.result.Result.the-variants.{Ok, Err}
 use Rattle.std.proofs.shelf.Lists.{ext-getD}
 use Rattle.std.proofs.shelf.Results.{cases-at-ok}
 use Rattle.std.proofs.shelf.Tests.{cases-eq, cases-lt}
-use Rattle.problem.specs.declared.job.Job.{Job}
-use Rattle.problem.specs.declared.plan.Plan.{Plan}
-use Rattle.problem.specs.Plans.{setup, setups, empty, name, Complete}
+use Rattle.job.specs.declared.job.Job.{Job}
+use Rattle.job.specs.declared.plan.Plan.{Plan}
+use Rattle.job.specs.Plans.{setup, setups, empty, name, Complete}
 use Rattle.problem.proofs.Naming.{setup-name-same, setup-name-other}
-use Rattle.problem.proofs.Readings.{setup-within, setup-none, setup-at}
+use Rattle.job.proofs.Readings.{setup-within, setup-none, setup-at}
 use Rattle.sheetcheck.specs.Spelling.{Spelled}
 
 empty-names-none : (k : ℕ) → setup empty k ≡ 255

@@ -9,8 +9,8 @@ use Rattle.std.specs.declared.result.Result.{Result}
 use Rattle.std.specs.declared.result.Result.the-variants.{Ok}
 use Rattle.std.proofs.shelf.Decimals.{parses-back}
 use Rattle.std.proofs.shelf.Results.{cases-at-ok}
-use Rattle.problem.specs.declared.job.Job.{Job}
-use Rattle.problem.specs.Plans.{setups}
+use Rattle.job.specs.declared.job.Job.{Job}
+use Rattle.job.specs.Plans.{setups}
 use Rattle.problem.proofs.Naming.{setups-few}
 
 module _ {E : Type 0} (j : Job) (h : ℕ) (word : List ℕ) (parsed : Result ℕ E) (reads : ReadsUnsigned 32 10 word parsed) where

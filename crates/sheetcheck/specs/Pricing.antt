@@ -3,7 +3,7 @@ use mathlib.Core.Path.{_≡_}
 use mathlib.Core.List.{List}
 use Rattle.std.specs.shelf.Lists.{All}
 use Rattle.scale.specs.Operations.{Operations}
-use Rattle.problem.specs.declared.plan.Plan.{Plan}
+use Rattle.job.specs.declared.plan.Plan.{Plan}
 use Rattle.problem.specs.Costs.{as-named}
 use Rattle.sheetcheck.specs.declared.prices.PairPrice.{PairPrice}
 

@@ -4,9 +4,9 @@ use mathlib.Core.List.{List}
 use Prim.Native.Nat.{ℕ, _-_, _≤_}
 use lib.ListN.{length, getD}
 use Rattle.std.specs.Written.{decimal}
-use Rattle.problem.specs.declared.job.Job.{Job}
-use Rattle.problem.specs.declared.plan.Plan.{Plan}
-use Rattle.problem.specs.Plans.{setup, Complete}
+use Rattle.job.specs.declared.job.Job.{Job}
+use Rattle.job.specs.declared.plan.Plan.{Plan}
+use Rattle.job.specs.Plans.{setup, Complete}
 
 -- q is a complete plan of the job, and the words, whose bytes `bytes` gives, are its setups
 pub record Spelled {W : Type 0} (bytes : W → List ℕ) (j : Job) (words : List W) (q : Plan) : Type 0 where

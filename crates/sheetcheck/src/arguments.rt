@@ -6,17 +6,17 @@ ghost use Rattle.std.specs.Of.String.{string-bytes};
 ghost use Rattle.std.specs.Results.{Cases};
 ghost use Rattle.std.specs.Written.{decimal};
 ghost use Rattle.std.specs.declared.result.Result.the-variants.{Ok, Err};
-ghost use Rattle.problem.specs.declared.plan.Plan.{Plan as Plan-of-heads};
-ghost use Rattle.problem.specs.Plans.{Complete, setups as setups-of};
+ghost use Rattle.job.specs.declared.plan.Plan.{Plan as Plan-of-heads};
+ghost use Rattle.job.specs.Plans.{Complete, setups as setups-of};
 ghost use Rattle.sheetcheck.specs.Spelling.{Spelled};
 use crate::counted::CountedDisplay;
 use crate::counted::setups;
-use problem::job::Job;
-use problem::plan::Plan;
+use job::job::Job;
+use job::plan::Plan;
 use std::fmt;
 
 // What is wrong with the arguments.
-#[derive(Clone, Copy, Debug)]
+#[derive(Clone, Copy)]
 pub enum Complaint<'a> {
     // not one for each head
     Count { heads: u8, given: usize },

@@ -1,11 +1,10 @@
 // Why the program ends with status 1.
-use problem::refusal::Refusal;
-use problem::refusal::RefusalDebug;
+use job::refusal::Refusal;
 use std::alloc::AllocError;
 use std::alloc::Refused;
 use std::io;
 
-#[derive(Debug, Drop)]
+#[derive(Drop)]
 pub enum Failure {
     // the sheet is refused, which was said
     Sheet,

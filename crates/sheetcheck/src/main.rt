@@ -5,8 +5,6 @@ mod failure;
 mod listing;
 mod prices;
 mod refused;
-#[cfg(test)]
-mod tests;
 
 use arguments::ComplaintDisplay;
 use arguments::plan_of;

@@ -2,7 +2,7 @@ use mathlib.Core.Path.{_≡_, sym, ap, subst, _∙_}
 use Prim.Native.Nat.{ℕ, _+_, _<_}
 use native.Mathlib.Omega.{arith}
 use Rattle.std.proofs.shelf.Tests.{ltb-true, both-ways}
-use Rattle.problem.specs.Plans.{setups, named}
+use Rattle.job.specs.Plans.{setups, named}
 use Rattle.problem.specs.Costs.{Comparable}
 use Rattle.problem.proofs.Naming.{setups-few}
 use Rattle.problem.proofs.Walks.{comparable, head-range}

@@ -2,7 +2,7 @@ use mathlib.Core.Path.{_≡_, sym, ap, _∙_}
 use mathlib.Core.Bool.{Bool, cond}
 use Prim.Native.Nat.{_-_}
 use native.Mathlib.Omega.{arith}
-use Rattle.problem.specs.Plans.{setups}
+use Rattle.job.specs.Plans.{setups}
 use Rattle.problem.specs.Costs.{against, lesser}
 use Rattle.problem.proofs.Joins.{lesser-never-left}
 use Rattle.problem.proofs.Walks.{least-step, least-done}

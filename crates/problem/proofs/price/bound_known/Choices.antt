@@ -1,7 +1,7 @@
 use mathlib.Core.Path.{_≡_}
 use Prim.Native.Nat.{_-_}
 use Rattle.std.specs.Iters.{counting}
-use Rattle.problem.specs.Plans.{setups}
+use Rattle.job.specs.Plans.{setups}
 use Rattle.problem.specs.Costs.{least, lesser, against, bound}
 use Rattle.problem.proofs.price.bound_known.Given as given
 

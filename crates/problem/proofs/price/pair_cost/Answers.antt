@@ -1,6 +1,6 @@
 use mathlib.Core.Path.{_≡_, sym, _∙_}
 use native.Mathlib.Omega.{arith}
-use Rattle.problem.specs.Plans.{setups}
+use Rattle.job.specs.Plans.{setups}
 use Rattle.problem.proofs.Naming.{setups-few}
 use Rattle.problem.proofs.Walks.{some-named, named-of-job, head-range}
 use Rattle.problem.proofs.price.pair_cost.Needs as need

@@ -1,8 +1,8 @@
 use mathlib.Core.Path.{_≡_}
 use Prim.Native.Nat.{_-_}
 use Rattle.std.specs.Iters.{counting}
-use Rattle.problem.specs.Lists.{those}
-use Rattle.problem.specs.Plans.{named}
+use Rattle.job.specs.Lists.{those}
+use Rattle.job.specs.Plans.{named}
 use Rattle.problem.specs.Costs.{joined-pairs, as-named, plan-cost}
 use Rattle.problem.proofs.price.plan_cost_known.Given as given
 

@@ -1,6 +1,6 @@
 use mathlib.Core.Path.{_≡_, sym, _∙_}
 use native.Mathlib.Omega.{arith}
-use Rattle.problem.proofs.Lists.{every-drop-fails, every-drop-passes, every-drop-all}
+use Rattle.job.proofs.Lists.{every-drop-fails, every-drop-passes, every-drop-all}
 use Rattle.sheet.specs.Hex.{is-digit}
 use Rattle.sheet.proofs.line.all_digits.Needs as need
 

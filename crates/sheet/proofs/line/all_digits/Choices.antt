@@ -1,6 +1,6 @@
 use mathlib.Core.Path.{_≡_}
 use lib.ListN.{drop}
-use Rattle.problem.specs.Lists.{every}
+use Rattle.job.specs.Lists.{every}
 use Rattle.sheet.specs.Hex.{is-digit}
 use Rattle.sheet.proofs.line.all_digits.Given as given
 

@@ -5,7 +5,7 @@ use borrow.Author.Needs.{needs}
 use native.Mathlib.Omega.{arith}
 use lib.ListN.{length, take}
 use Rattle.std.proofs.shelf.Tests.{both-ways}
-use Rattle.problem.specs.Plans.{are-counts}
+use Rattle.job.specs.Plans.{are-counts}
 use Rattle.sheet.proofs.Shapes.{counts-lawful}
 use Rattle.sheet.proofs.read.told.Needs as need
 

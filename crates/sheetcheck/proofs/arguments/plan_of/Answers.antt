@@ -4,7 +4,7 @@ use native.Mathlib.Omega.{arith}
 use borrow.Author.Needs.{needs}
 use Rattle.std.specs.Of.String.{string-bytes}
 use Rattle.std.specs.declared.result.Result.the-variants.{Ok}
-use Rattle.problem.specs.Plans.{name}
+use Rattle.job.specs.Plans.{name}
 use Rattle.sheetcheck.proofs.Completing.{Named-below, named-below-first, named-below-next, named-below-complete, named-below-spelled, given-is-spelled, none-is-spelled}
 use Rattle.sheetcheck.proofs.arguments.plan_of.Needs as need
 use Rattle.sheetcheck.proofs.arguments.plan_of.Needs.{else-loop-head-test, then-loop-head-test·in-Continue-setup·else·-head-heads}

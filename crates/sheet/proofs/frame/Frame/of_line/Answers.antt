@@ -8,7 +8,7 @@ use Rattle.std.specs.declared.option.Option.the-variants.{Some, None}
 use Rattle.std.proofs.shelf.Equals.{sameBytes-decides}
 use Rattle.std.proofs.shelf.Tests.{and-left, and-right, cond-false}
 use Rattle.std.proofs.shelf.Ways.{tells}
-use Rattle.problem.specs.Lists.{every}
+use Rattle.job.specs.Lists.{every}
 use Rattle.sheet.specs.Lines.{ends, front, are-digits, is-line}
 use Rattle.sheet.specs.Frames.{Said, end, is-end, frame-of}
 use Rattle.sheet.proofs.frame.Frame.of_line.Needs as need

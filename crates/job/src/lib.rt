@@ -1,0 +1,4 @@
+// Jobs, plans, and why a call declines.
+pub mod job;
+pub mod plan;
+pub mod refusal;
