@@ -2,7 +2,7 @@
 use mathlib.Core.Path.{_≡_, refl, sym, ap, _∙_}
 use mathlib.Core.Bool.{Bool, true, false, not, _&&_, _||_}
 use mathlib.Core.Logic.{_⊎_, inl, inr}
-use mathlib.Core.List.{List, [], _∷_}
+use mathlib.Core.List.{List}
 use Prim.Native.Nat.{ℕ, zero, suc, _+_, _-_, _*_, _^_, _<_, _≤_}
 use native.Mathlib.Omega.{arith}
 use native.Mathlib.Nat.{pow-le-pow-right}
@@ -51,11 +51,6 @@ setups-read j (suc k) a = let e : suc k - 1 ≡ k = omega arith in rw e
 
 pub setups-at : (j : Job) (k : ℕ) → setups j (1 + k) ≡ getD (j .setups) k 0
 setups-at j k = let e : 1 + k - 1 ≡ k = omega arith in setups-read j (1 + k) (omega arith) ∙ ap (λ (i : ℕ). getD (j .setups) i 0) e
-
-pub setups-none : (j : Job) (h : ℕ) → (h < 1) ⊎ ((1 ≤ h) × (8 < h)) → setups j h ≡ 0
-setups-none j zero o = refl
-setups-none j (suc k) (inl lt) = absurd (omega arith)
-setups-none j (suc k) (inr gt) = j .rest k (omega (arith, j .eight, gt .1))
 
 -- whether a plan may have what it has for head 1 + k
 pub allowed-at : (j : Job) (q : Plan) (k : ℕ) → length (q .setups) ≡ 8 → k < 8 →

@@ -1,22 +1,18 @@
 -- The loops over heads and setups: what is left gives the whole. Assumes nothing.
-use mathlib.Core.Path.{_≡_, refl, sym, ap, _∙_}
-use mathlib.Core.Bool.{Bool, true, false, cond, not, _||_}
+use mathlib.Core.Path.{_≡_, sym, ap, _∙_}
+use mathlib.Core.Bool.{Bool, true, false, not, _||_}
 use mathlib.Core.Logic.{_⊎_, inl, inr}
 use mathlib.Core.List.{List, [], _∷_}
 use Prim.Native.Nat.{ℕ, zero, suc, _+_, _-_, _<_, _≤_}
 use native.Mathlib.Omega.{arith}
-use native.Mathlib.Numerals.{add-one}
-use lib.Dec.{ltb, leb}
-use lib.ListN.{length, getD}
 use Rattle.std.specs.Iters.{counting}
-use Rattle.std.specs.declared.option.Option.{Option}
 use Rattle.std.specs.declared.option.Option.the-variants.{Some, None}
-use Rattle.std.proofs.shelf.Tests.{cases-bool, cases-lt, and-parts, or-cases, cond-true, cond-false, ltb-true, leb-true, not-true, both-ways}
-use Rattle.scale.specs.Operations.{Operations, Laws, AtMost}
+use Rattle.std.proofs.shelf.Tests.{cases-bool, cases-lt, and-parts, or-cases, cond-true, cond-false, ltb-true, not-true, both-ways}
+use Rattle.scale.specs.Operations.{Operations, Laws}
 use Rattle.job.specs.declared.job.Job.{Job}
 use Rattle.job.specs.declared.plan.Plan.{Plan}
 use Rattle.job.specs.Lists.{those, every}
-use Rattle.job.specs.Plans.{setup, setups, named, setup-named, is-head, is-setup, is-of-job}
+use Rattle.job.specs.Plans.{setup, setups, named, setup-named, is-setup, is-of-job}
 use Rattle.problem.specs.Costs.{joined, joined-pairs, lesser, least, against-those, as-named, between, Readable, Comparable}
 use Rattle.problem.proofs.Joins.{neutral-right, lesser-associative, lesser-never-right}
 use Rattle.problem.proofs.Naming.{those-passes, those-fails, setups-few}

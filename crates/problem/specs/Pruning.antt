@@ -1,14 +1,14 @@
 -- The mathematics of the search: what naming a head adds, why giving up a setup loses nothing, and why trying every setup of a
 -- head loses nothing. Assumes nothing.
 use mathlib.Core.Path.{_≡_}
-use mathlib.Core.Bool.{true, false}
+use mathlib.Core.Bool.{false}
 use mathlib.Core.List.{List}
 use Prim.Native.Nat.{ℕ, _<_, _≤_}
 use lib.ListN.{length}
 use Rattle.scale.specs.Operations.{Operations, AtMost}
 use Rattle.job.specs.declared.job.Job.{Job}
 use Rattle.job.specs.declared.plan.Plan.{Plan}
-use Rattle.job.specs.Plans.{setups, setup, named, name, unnamed-heads, Extends}
+use Rattle.job.specs.Plans.{setups, named, name, unnamed-heads, Extends}
 use Rattle.problem.specs.Costs.{joined, against, plan-cost, bound}
 
 module _ {S : Type 0} (s : Operations S) where

@@ -42,8 +42,8 @@ fn against_range<S: Scale>(costs: &[S], h: u8, i: u8, plan: &Plan, from: u8, end
     sum
 }
 
-// The same as `against` for input that is known to be good. Public for the crates above, which show that it is.
-pub fn against_known<S: Scale>(job: &Job, costs: &[S], head: u8, setup: u8, plan: &Plan) -> S
+// The same as `against` for input that is known to be good.
+fn against_known<S: Scale>(job: &Job, costs: &[S], head: u8, setup: u8, plan: &Plan) -> S
     requires readable { ⌜ Readable (now job) (now costs) (now plan) ⌝ }
     requires asked { ⌜ is-setup (now job) head setup ≡ true ⌝ ∗ ⌜ named (now plan) head ≡ false ⌝ }
     ensures { λ r. ⌜ r ≡ against-named (S·Scale .scale) (now (costs .entry)) (now (job .entry)) head setup (now (plan .entry)) ⌝ }
@@ -51,8 +51,8 @@ pub fn against_known<S: Scale>(job: &Job, costs: &[S], head: u8, setup: u8, plan
     against_range(costs, head, setup, plan, 1, job.heads() + 1)
 }
 
-// The same as `bound` for input that is known to be good. Public for the crates above, which show that it is.
-pub fn bound_known<S: Scale>(job: &Job, costs: &[S], head: u8, plan: &Plan) -> S
+// The same as `bound` for input that is known to be good.
+fn bound_known<S: Scale>(job: &Job, costs: &[S], head: u8, plan: &Plan) -> S
     requires readable { ⌜ Readable (now job) (now costs) (now plan) ⌝ }
     requires asked { ⌜ is-head (now job) head ≡ true ⌝ ∗ ⌜ named (now plan) head ≡ false ⌝ }
     ensures { λ r. ⌜ r ≡ bound-of (S·Scale .scale) (now (costs .entry)) (now (job .entry)) head (now (plan .entry)) ⌝ }

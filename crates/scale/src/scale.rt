@@ -1,6 +1,5 @@
 // A scale is a kind of cost. Everything above is generic over it and uses only what this trait promises.
 ghost use mathlib.Core.Path.{_≡_};
-ghost use lib.ListN.{length};
 ghost use Rattle.scale.specs.Operations.{Operations, Laws};
 ghost use Rattle.scale.specs.Coding.{Coding, Coded, reading, written, writing};
 

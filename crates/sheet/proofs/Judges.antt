@@ -27,7 +27,7 @@ use Rattle.sheet.specs.Frames.{Said, opening, head, table, end, misshapen, unk
 use Rattle.sheet.specs.Tables.{entry, first-fails, celled, first-unlawful}
 use Rattle.sheet.specs.Steps.{start, due, setups-of, opening-fits, head-fits, table-fits, opened, headed, tabled, ended, entries-judged, table-read, frame-read, step, line-read}
 use Rattle.sheet.specs.Sheets.{refused-at, is-ended, onward, lines-read, sheet-read, Reads}
-use Rattle.sheet.specs.Judgements.{First-unlawful, fits, Changes, opens, knows, has-table, ends, Keeps, Breaks, no-line, not-due, no-end, out-of-range, second-table, bad-entry, Goes, stays, goes, Lawful, Refused, Judged, too-little, too-long, refused, granted}
+use Rattle.sheet.specs.Judgements.{First-unlawful, fits, Changes, opens, knows, has-table, ends, Keeps, Breaks, no-line, not-due, no-end, out-of-range, second-table, bad-entry, Goes, stays, goes, Judged, too-little, too-long, refused, granted}
 
 -- a test that is passed, or refused by e
 module _ {X E : Type 0} (t : Bool) (r : Result X E) (e : E) where

@@ -1,19 +1,16 @@
 -- The lines of a sheet, one after the other. Assumes nothing.
-use mathlib.Core.Path.{_≡_, refl, sym, ap, ap₂, _∙_}
-use mathlib.Core.Bool.{Bool, true, false, not, cond}
-use mathlib.Core.Logic.{_⊎_, inl, inr}
+use mathlib.Core.Path.{_≡_, sym, ap, ap₂, _∙_}
+use mathlib.Core.Bool.{true, false, cond}
+use mathlib.Core.Logic.{inl, inr}
 use mathlib.Core.List.{List, [], _∷_}
-use Prim.Native.Nat.{ℕ, suc, min, _+_, _-_, _<_, _≤_}
+use Prim.Native.Nat.{ℕ, suc, _+_, _-_, _<_}
 use native.Mathlib.Omega.{arith}
-use native.Mathlib.Numerals.{add-one, one-add}
 use lib.Dec.{eqb}
 use lib.ListN.{length, take, drop}
-use Rattle.std.specs.shelf.Lists.{leading}
-use Rattle.std.specs.declared.option.Option.{Option}
 use Rattle.std.specs.declared.option.Option.the-variants.{Some, None}
 use Rattle.std.proofs.shelf.Lists.{nil-from-length}
 use Rattle.std.proofs.shelf.Tests.{cases-bool, cond-true, cond-false}
-use Rattle.sheet.specs.Lines.{onto, lines, in-line, line-length, is-line}
+use Rattle.sheet.specs.Lines.{onto, lines, line-length, is-line}
 use Rattle.std.specs.declared.result.Result.{Result}
 use Rattle.std.specs.declared.result.Result.the-variants.{Ok, Err}
 use Rattle.scale.specs.Coding.{Coding}
@@ -58,9 +55,6 @@ first-line (b ∷ x ∷ bs) h = elim (cases-bool (eqb b 10)) [
       cond-false _ _ _ e ∙ ap (onto b) (first-line (x ∷ bs) (omega arith))
       ∙ ap (λ (n : ℕ). take n (b ∷ x ∷ bs) ∷ lines (drop n (b ∷ x ∷ bs))) (sym (longer b (x ∷ bs) e))
 ]
-
-pub line-length-within : (bs : List ℕ) → 0 < length bs → (1 ≤ line-length bs) × (line-length bs ≤ length bs)
-line-length-within bs h = (omega arith, omega arith)
 
 pub first-and-rest : (bs l a : List ℕ) → 0 < length bs → l ≡ take (line-length bs) bs → a ≡ drop (line-length bs) bs → lines bs ≡ l ∷ lines a
 first-and-rest bs l a h e f = first-line bs h ∙ ap₂ (λ (x y : List ℕ). x ∷ lines y) (sym e) (sym f)

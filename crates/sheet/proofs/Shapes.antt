@@ -1,18 +1,18 @@
 -- What has been read is in range: heads, setups, and the shape of a table that fits. Assumes nothing.
 use mathlib.Core.Path.{_≡_, refl, sym, ap, _∙_}
-use mathlib.Core.Bool.{Bool, true, false, cond, _&&_}
+use mathlib.Core.Bool.{true, false, _&&_}
 use mathlib.Core.Logic.{_⊎_, inl, inr}
-use mathlib.Core.List.{List, [], _∷_}
+use mathlib.Core.List.{List, []}
 use Prim.Native.Nat.{ℕ, zero, suc, _+_, _-_, _*_, _<_, _≤_}
 use native.Mathlib.Omega.{arith}
-use lib.Dec.{eqb, leb, ltb}
-use lib.ListN.{length, getD, set, take}
+use lib.Dec.{leb}
+use lib.ListN.{length, getD, take}
 use Rattle.std.proofs.shelf.Lists.{getD-set-same, getD-set-other, getD-take, length-take-le, nil-from-length}
 use Rattle.std.proofs.shelf.Tests.{false≢true, cases-bool, cases-eq, cases-lt, and-from, and-parts, cond-true, cond-false, eqb-true, leb-true, ltb-true, lt-ltb, le-ltb, le-leb}
 use Rattle.std.specs.declared.option.Option.{Option}
 use Rattle.std.specs.declared.option.Option.the-variants.{Some, None}
 use Rattle.scale.specs.Coding.{Coding}
-use Rattle.problem.specs.Costs.{pair, is-pair}
+use Rattle.problem.specs.Costs.{pair}
 use Rattle.job.specs.Plans.{are-counts}
 use Rattle.job.proofs.Lists.{every-at-places}
 use Rattle.problem.proofs.Places.{pair-within}

@@ -1,10 +1,10 @@
 -- What a line says: its first two digits are a byte that tells the kind of the frame, then come fields of one byte each, and in a
 -- table the digits of the entries. Assumes nothing.
-use mathlib.Core.Bool.{Bool, true, false, cond}
+use mathlib.Core.Bool.{Bool, cond}
 use mathlib.Core.List.{List, [], _∷_}
 use Prim.Native.Nat.{ℕ, _-_}
 use lib.Dec.{eqb, leb}
-use lib.ListN.{length, getD, take, drop}
+use lib.ListN.{length, getD, drop}
 use Rattle.std.specs.shelf.Text.{sameBytes}
 use Rattle.std.specs.declared.option.Option.{Option}
 use Rattle.std.specs.declared.option.Option.the-variants.{Some, None}
@@ -33,13 +33,7 @@ said End = end
 said (Misshapen kind) = misshapen kind
 said Unknown = unknown
 
--- the number of each kind
-abbrev pub number : Kind → ℕ
-number Kind-opening = 1
-number Kind-head = 2
-number Kind-table = 3
-number Kind-end = 4
-
+-- the kind of a frame, where it is known
 abbrev pub kind : Said → Option Kind
 kind (opening heads scale) = Some Kind-opening
 kind (head h setups) = Some Kind-head

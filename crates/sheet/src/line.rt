@@ -1,7 +1,6 @@
 // Lines.
 ghost use mathlib.Core.Path.{_≡_};
-ghost use Prim.Native.Nat.{_<_, _≤_};
-ghost use lib.ListN.{length};
+ghost use Prim.Native.Nat.{_<_};
 ghost use Rattle.job.specs.Lists.{every};
 ghost use Rattle.sheet.specs.Hex.{is-digit as is-hexadecimal};
 ghost use Rattle.sheet.specs.Lines.{are-digits, line-length};

@@ -1,14 +1,13 @@
 // One line of a sheet: what is known after it, or the first rule that it breaks.
 ghost use mathlib.Core.Path.{_≡_};
 ghost use mathlib.Core.Logic.{_⊎_};
-ghost use mathlib.Core.Bool.{cond};
 ghost use Prim.Native.Nat.{_≤_};
 ghost use lib.ListN.{length};
 ghost use Rattle.std.specs.Results.{Cases};
 ghost use Rattle.std.specs.Vec.{made};
 ghost use Rattle.std.specs.declared.option.Option.the-variants.{Some, None};
 ghost use Rattle.sheet.specs.Frames.{said, opening as Opening-frame, head as Head-frame, table as Table-frame, frame-of};
-ghost use Rattle.sheet.specs.Steps.{due, table-fits, shape as table-shape, frame-read, frame-laid, step as step-read, line-read, Sound};
+ghost use Rattle.sheet.specs.Steps.{due, shape as table-shape, frame-read, frame-laid, step as step-read, line-read, Sound};
 ghost use Rattle.sheet.specs.declared.progress.Stage.the-variants.{Start as At-start, Heads as At-heads, Tables as At-tables};
 use crate::breach::Breach;
 use crate::entry::first_unlawful;

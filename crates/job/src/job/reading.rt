@@ -6,7 +6,7 @@ ghost use Prim.Native.Nat.{_-_, _≤_};
 ghost use lib.Dec.{leb};
 ghost use lib.ListN.{length, replicate};
 ghost use Rattle.job.specs.Lists.{every};
-ghost use Rattle.job.specs.Plans.{Makes-job, setups as setups-of, is-setup as is-setup-of, plans as plans-of, is-complete, is-of-job};
+ghost use Rattle.job.specs.Plans.{Makes-job, setups as setups-of, plans as plans-of, is-complete, is-of-job};
 use super::Job;
 use crate::plan::Plan;
 use crate::refusal::Refusal;

@@ -1,4 +1,4 @@
-use mathlib.Core.Path.{_≡_, sym, _∙_}
+use mathlib.Core.Path.{sym, _∙_}
 use Rattle.problem.proofs.Walks.{against-step, against-skip, against-done}
 use Rattle.problem.proofs.price.against_range.Needs as need
 use Rattle.problem.proofs.price.against_range.Needs.{in-Some, in-rest}

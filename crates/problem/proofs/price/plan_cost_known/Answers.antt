@@ -1,8 +1,7 @@
-use mathlib.Core.Path.{_≡_, sym, ap, subst, _∙_}
+use mathlib.Core.Path.{sym, subst, _∙_}
 use Prim.Native.Nat.{ℕ, _+_}
 use native.Mathlib.Omega.{arith}
-use Rattle.job.specs.Plans.{setups}
-use Rattle.problem.specs.Costs.{Comparable, against-those}
+use Rattle.problem.specs.Costs.{Comparable}
 use Rattle.problem.proofs.Naming.{setups-few}
 use Rattle.problem.proofs.Walks.{comparable, some-named, named-of-job, pairs-step, pairs-skip, pairs-done}
 use Rattle.problem.proofs.price.plan_cost_known.Needs as need

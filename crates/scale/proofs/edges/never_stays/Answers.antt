@@ -1,5 +1,5 @@
-use mathlib.Core.Path.{_≡_, subst}
-use Rattle.scale.specs.Operations.{Laws, AtMost}
+use mathlib.Core.Path.{subst}
+use Rattle.scale.specs.Operations.{AtMost}
 use Rattle.scale.proofs.edges.never_stays.Needs as need
 
 pub returns : need.returns

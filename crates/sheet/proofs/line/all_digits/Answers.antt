@@ -1,4 +1,4 @@
-use mathlib.Core.Path.{_≡_, sym, _∙_}
+use mathlib.Core.Path.{sym, _∙_}
 use native.Mathlib.Omega.{arith}
 use Rattle.job.proofs.Lists.{every-drop-fails, every-drop-passes, every-drop-all}
 use Rattle.sheet.specs.Hex.{is-digit}

@@ -1,13 +1,12 @@
 use mathlib.Core.Path.{_≡_, refl, sym, ap, ap₂, _∙_}
-use mathlib.Core.List.{List, [], _∷_, _++_}
+use mathlib.Core.List.{List, _++_}
 use Prim.Native.Nat.{ℕ, _-_}
 use native.Mathlib.Omega.{arith}
 use lib.ListN.{length, take, drop, replicate}
 use Rattle.std.proofs.shelf.Lists.{nil-from-length, length-take-le}
-use Rattle.std.specs.declared.result.Result.the-variants.{Ok, Err}
 use Rattle.sheet.specs.Lines.{lines}
 use Rattle.sheet.specs.Steps.{start}
-use Rattle.sheet.specs.Sheets.{sheet-laid, Reads, too-little, too-long, refused, granted}
+use Rattle.sheet.specs.Sheets.{sheet-laid, too-little, too-long, refused, granted}
 use Rattle.sheet.proofs.Lines.{read-ends}
 use Rattle.sheet.proofs.read.read_exactly.Given as given
 use Rattle.sheet.proofs.read.read_exactly.Needs as need

@@ -1,5 +1,4 @@
 use mathlib.Core.Path.{_≡_, refl, sym, ap, subst, _∙_}
-use mathlib.Core.Bool.{true, false, cond}
 use Rattle.std.specs.Results.{Cases}
 use Rattle.std.proofs.shelf.Tests.{cond-true, cond-false}
 use Rattle.sheet.specs.Frames.{Said}

@@ -1,11 +1,4 @@
-use mathlib.Core.Path.{_≡_, refl, sym, ap, _∙_}
-use mathlib.Core.Bool.{true, false}
-use Prim.Native.Nat.{ℕ, _≤_}
-use native.Mathlib.Omega.{arith}
-use lib.ListN.{getD, length}
-use Rattle.std.specs.declared.option.Option.{Option}
-use Rattle.std.specs.declared.option.Option.the-variants.{Some, None}
-use Rattle.std.specs.declared.result.Result.the-variants.{Ok}
+use mathlib.Core.Path.{_≡_, sym, _∙_}
 use Rattle.sheet.specs.Tables.{entry, table-laid}
 use Rattle.sheet.proofs.Shapes.{Shaped, shaped, table-accepted, laid-somewhere}
 use Rattle.sheet.proofs.step.after_table.Given as given

@@ -5,7 +5,7 @@ use lib.Dec.{eqb, leb}
 use Rattle.std.specs.declared.option.Option.the-variants.{Some, None}
 use Rattle.std.proofs.shelf.Tests.{cond-true}
 use Rattle.std.proofs.shelf.Ways.{tells}
-use Rattle.scale.specs.ClashesModel.{clashes-same, counted}
+use Rattle.scale.specs.ClashesModel.{counted}
 use Rattle.scale.proofs.ClashesLaws.{counted-same}
 use Rattle.scale.proofs.clashes.Clashes.new.Needs as need
 

@@ -1,5 +1,5 @@
-use mathlib.Core.Path.{_≡_, refl, sym, ap, subst, _∙_}
-use mathlib.Core.Bool.{Bool, true, false, cond, _&&_}
+use mathlib.Core.Path.{_≡_, refl, sym, ap, _∙_}
+use mathlib.Core.Bool.{false, cond}
 use mathlib.Core.List.{List, [], _∷_}
 use Prim.Native.Nat.{ℕ}
 use native.Mathlib.Omega.{arith}
@@ -10,7 +10,7 @@ use Rattle.std.proofs.shelf.Tests.{and-left, and-right, cond-false}
 use Rattle.std.proofs.shelf.Ways.{tells}
 use Rattle.job.specs.Lists.{every}
 use Rattle.sheet.specs.Lines.{ends, front, are-digits, is-line}
-use Rattle.sheet.specs.Frames.{Said, end, is-end, frame-of}
+use Rattle.sheet.specs.Frames.{Said, end, frame-of}
 use Rattle.sheet.proofs.frame.Frame.of_line.Needs as need
 use Rattle.sheet.proofs.frame.Frame.of_line.Needs.{in-rest·by·then-line-lt1, in-rest·by·in-10·else-are-digits, in-rest·by·else-line-lt1·in-rest·}
 
