@@ -30,7 +30,7 @@ returns-then-plan-k c =
     let j = c .args .self .now in
     let q = c .args .plan .now in
     let k = c .loop-k .k in
-    let e = allowed-at j q k (search needs) (omega arith) ∙ refused _ _ (c .if-plan-k-lt255 .taken) (c .if-plan-k .taken) in
+    let e = allowed-at j q k (search needs) (omega arith) ∙ refused (getD (q .setups) k 0) (getD (j .setups) k 0) (c .if-plan-k-lt255 .taken) (omega arith) in
     sym (every-fails (allowed j q) 8 k (omega arith) e) ∙ c .loop-k .inv
 
 pub loop-k-again : need.loop-k-again
@@ -39,7 +39,7 @@ loop-k-again c =
     let q = c .args .plan .now in
     let k = c .loop-k .k in
     let e : allowed j q (1 + k) ≡ true = allowed-at j q k (search needs) (omega arith) ∙ elim (c .else-plan-k-lt255 .came) [
-      | else-plan-k-lt255·by·then-plan-k-lt255·else-plan-k w ↦ within _ _ (w .if-plan-k .left)
+      | else-plan-k-lt255·by·then-plan-k-lt255·else-plan-k w ↦ within (getD (q .setups) k 0) (getD (j .setups) k 0) (omega arith)
       | else-plan-k-lt255·by·else-plan-k-lt255 w ↦ none (getD (q .setups) k 0) (getD (j .setups) k 0) (w .if-plan-k-lt255 .left)
     ] in
     sym (every-goes-on (allowed j q) 8 k (omega arith) e) ∙ c .loop-k .inv
