@@ -1,4 +1,6 @@
 // What one head does with one message.
+#![tactic(auto)]
+
 pub mod best;
 pub mod laws;
 pub mod owed;

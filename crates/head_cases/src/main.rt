@@ -1,5 +1,7 @@
 // Gives a head one message at a time, and prints what receiving it answers, the state of the head's record after it, what the
 // head's best then costs, and the messages that then wait, each with its sender, receiver and cost.
+#![tactic(auto)]
+
 mod answers;
 mod case;
 mod failure;

@@ -1,4 +1,6 @@
 // Jobs, plans, and why a call declines.
+#![tactic(auto)]
+
 pub mod job;
 pub mod plan;
 pub mod refusal;

@@ -1,4 +1,6 @@
 // Messages, links that carry them in an order of their own, and pickers.
+#![tactic(auto)]
+
 pub mod first_in;
 pub mod heads;
 pub mod last_in;

@@ -1,5 +1,7 @@
 // Sends the same twelve messages over a first-in and over a last-in link, prints them as they come out, and forwards a message over
 // each.
+#![tactic(auto)]
+
 mod failure;
 mod fill;
 mod forward;

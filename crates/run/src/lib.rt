@@ -1,2 +1,4 @@
 // Whole runs: start, deliver, look, end, and solve.
+#![tactic(auto)]
+
 pub mod run;

@@ -1,4 +1,6 @@
 // Scales of cost: what the setups of two heads cost each other, how costs are joined and compared, and how they stand in sheets.
+#![tactic(auto)]
+
 pub mod clashes;
 pub mod edges;
 pub mod minutes;

@@ -1,4 +1,6 @@
 // Sheets: the lines in which a customer writes a job and its costs.
+#![tactic(auto)]
+
 pub mod breach;
 pub mod entry;
 pub mod frame;

@@ -3,6 +3,8 @@
 // A line is a name, what is expected, and the sheet, with a space between. In a sheet `/` stands for the byte 0A, `~` for 0D, and
 // (3*0A) for 0A0A0A. Expected is `ok` with the setups by head and the pairs that have a table, as ok:2,2:1-2; or a refusal's number
 // and line, as 4@2, for a bad entry with its row and column, as 6@4:0,1. A line that begins with # is a comment.
+#![tactic(auto)]
+
 mod cases;
 mod expand;
 

@@ -1,4 +1,6 @@
 // Reads a sheet from standard input and says what it holds; with a setup for each head as arguments, also what that plan costs.
+#![tactic(auto)]
+
 mod arguments;
 mod counted;
 mod failure;

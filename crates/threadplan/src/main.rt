@@ -1,5 +1,7 @@
 // Reads a sheet from standard input, and writes a cheapest plan with its cost and the number of messages that finding it took; or the
 // refusal of the sheet.
+#![tactic(auto)]
+
 mod planning;
 
 use planning::plan;

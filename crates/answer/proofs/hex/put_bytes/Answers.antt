@@ -8,8 +8,8 @@ use Rattle.answer.proofs.hex.put_bytes.Goals as goal
 pub loop-byte-init : goal.loop-byte-init
 loop-byte-init c = written_none c.args.out.now c.args.at
 
-pub put-byte-end-requires : goal.put-byte-end-requires
-put-byte-end-requires c =
+pub put_byte-end-requires : goal.put_byte-end-requires
+put_byte-end-requires c =
     let bs = c.args.bytes.now in
     let i = c.loop-byte.byte-index in
     omega (arith, c.loop-byte.invariant.end_is, hex_length (take i bs), length-take-le i bs (omega arith))
@@ -18,9 +18,9 @@ pub loop-byte-preserved : goal.loop-byte-preserved
 loop-byte-preserved c =
     let bs = c.args.bytes.now in
     let i = c.loop-byte.byte-index in
-    let end = c.put-byte-end.result in
-    let out = c.put-byte-end.new.out in
-    subst (λ (xs : List ℕ). Written c.args.out.now c.args.at xs end out) (sym (hex_more bs i (omega arith))) (written_then c.loop-byte.invariant c.put-byte-end.ensures)
+    let end = c.put_byte-end.result in
+    let out = c.put_byte-end.new.out in
+    subst (λ (xs : List ℕ). Written c.args.out.now c.args.at xs end out) (sym (hex_more bs i (omega arith))) (written_then c.loop-byte.invariant c.put_byte-end.ensures)
 
 pub returns : goal.returns
 returns c =

@@ -6,7 +6,7 @@ use Rattle.answer.proofs.write.put_count.Goals as goal
 
 pub returns : goal.returns
 returns c =
-    let out = c.put-bytes-end.new.out in
-    let mid = c.put-bytes-end.result in
-    let told = subst (λ (bs : List ℕ). Written out mid (hex bs) c.put-bytes-end-2.result c.put-bytes-end-2.new.out) c.to-be-bytes.ensures c.put-bytes-end-2.ensures in
-    written_then (written_then c.put-bytes-end.ensures told) c.put-end.ensures
+    let out = c.put_bytes-end.new.out in
+    let mid = c.put_bytes-end.result in
+    let told = subst (λ (bs : List ℕ). Written out mid (hex bs) c.put_bytes-end-2.result c.put_bytes-end-2.new.out) c.to_be_bytes.ensures c.put_bytes-end-2.ensures in
+    written_then (written_then c.put_bytes-end.ensures told) c.put_end.ensures

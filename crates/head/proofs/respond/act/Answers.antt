@@ -9,8 +9,8 @@ use Rattle.head.specs.Readiness.{owing}
 use Rattle.head.proofs.Replying.{notices_so, stops_so, chooses_going, chooses_none, expects_request, expects_notice, expects_stop}
 use Rattle.head.proofs.respond.act.Goals as goal
 
-pub returns-in-default-Request : goal.returns-in-default-Request
-returns-in-default-Request g c = owing c.in-default-Request.is-1 (ap (expects c.args.known.now.state) c.in-default-Request.is-1 ∙ expects_request c.args.known.now.state) refl refl refl
+pub returns-in_default-Request : goal.returns-in_default-Request
+returns-in_default-Request g c = owing c.in_default-Request.is-1 (ap (expects c.args.known.now.state) c.in_default-Request.is-1 ∙ expects_request c.args.known.now.state) refl refl refl
 
 pub returns-in-Gathering-Report : goal.returns-in-Gathering-Report
 returns-in-Gathering-Report g c =
@@ -27,16 +27,16 @@ returns-in-Below-Return g c =
     chooses_going g.S.Scale.scale c.args.job.now c.args.costs.now c.args.known.now c.args.message.now c.args.best.now _ _ _ _ _ Return c.resume.result c.in-Below-Return.is-1 (λ e. let z : ◌≡◌ {A = ℕ} 0 1 = cc in omega arith)
     (ap (λ (st : State). expects st Return) c.in-Below-Return.is-0) c.resume.ensures
 
-pub returns-in-default-Notice : goal.returns-in-default-Notice
-returns-in-default-Notice g c =
-    chooses_going g.S.Scale.scale c.args.job.now c.args.costs.now c.args.known.now c.args.message.now c.args.best.now _ _ _ _ _ Notice c.quiet.result c.in-default-Notice.is-1 (λ e. let z : ◌≡◌ {A = ℕ} 0 1 = cc in omega arith) (expects_notice c.args.known.now.state)
+pub returns-in_default-Notice : goal.returns-in_default-Notice
+returns-in_default-Notice g c =
+    chooses_going g.S.Scale.scale c.args.job.now c.args.costs.now c.args.known.now c.args.message.now c.args.best.now _ _ _ _ _ Notice c.quiet.result c.in_default-Notice.is-1 (λ e. let z : ◌≡◌ {A = ℕ} 0 1 = cc in omega arith) (expects_notice c.args.known.now.state)
     (notices_so g.S.Scale.scale c.args.job.now c.args.costs.now c.args.known.now c.args.message.now c.args.best.now c.adopted-adopted.result c.quiet.result _ _
-    (c.adopted-adopted.ensures ∙ ap (λ (b : Best _). adopted g.S.Scale.scale b c.args.best.now) c.carried-by.ensures) c.quiet.ensures)
+    (c.adopted-adopted.ensures ∙ ap (λ (b : Best _). adopted g.S.Scale.scale b c.args.best.now) c.carried_by.ensures) c.quiet.ensures)
 
-pub returns-in-default-Stop : goal.returns-in-default-Stop
-returns-in-default-Stop g c =
-    chooses_going g.S.Scale.scale c.args.job.now c.args.costs.now c.args.known.now c.args.message.now c.args.best.now _ _ _ _ _ Stop c.quiet-in-default-Stop.result c.in-default-Stop.is-1 (λ e. let z : ◌≡◌ {A = ℕ} 0 1 = cc in omega arith) (expects_stop c.args.known.now.state)
-    (stops_so g.S.Scale.scale c.args.job.now c.args.costs.now c.args.known.now c.args.message.now c.args.best.now c.carried-by-in-default-Stop.result c.quiet-in-default-Stop.result _ _ c.carried-by-in-default-Stop.ensures c.quiet-in-default-Stop.ensures)
+pub returns-in_default-Stop : goal.returns-in_default-Stop
+returns-in_default-Stop g c =
+    chooses_going g.S.Scale.scale c.args.job.now c.args.costs.now c.args.known.now c.args.message.now c.args.best.now _ _ _ _ _ Stop c.quiet-in_default-Stop.result c.in_default-Stop.is-1 (λ e. let z : ◌≡◌ {A = ℕ} 0 1 = cc in omega arith) (expects_stop c.args.known.now.state)
+    (stops_so g.S.Scale.scale c.args.job.now c.args.costs.now c.args.known.now c.args.message.now c.args.best.now c.carried_by-in_default-Stop.result c.quiet-in_default-Stop.result _ _ c.carried_by-in_default-Stop.ensures c.quiet-in_default-Stop.ensures)
 
 pub returns-in-Resting-Report : goal.returns-in-Resting-Report
 returns-in-Resting-Report g c = chooses_none g.S.Scale.scale c.args.job.now c.args.costs.now c.args.known.now c.args.message.now c.args.best.now _ _ _ _ _ Resting Report c.in-Resting-Report.is-0 c.in-Resting-Report.is-1 refl refl refl refl

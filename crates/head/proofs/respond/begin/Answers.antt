@@ -5,8 +5,8 @@ use Rattle.head.specs.Readiness.{Ready}
 use Rattle.head.proofs.Replying.{first_own, begins_so}
 use Rattle.head.proofs.respond.begin.Goals as goal
 
-pub search-on-requires : goal.search-on-requires
-search-on-requires g c =
+pub search_on-requires : goal.search_on-requires
+search_on-requires g c =
     let left = c.below.ensures ∙ ap (λ (d : ℕ). first_setups (min d 8)) c.setups.ensures in
     subst (λ (u : SetupSet). Ready c.args.job.now c.args.costs.now c.args.message.now.to c.args.message.now.plan u) (sym left)
     (record { room = c.requires.room; head = c.requires.head; of_job = c.requires.of_job; free = c.requires.free; own = first_own c.args.job.now c.args.message.now.to })

@@ -17,5 +17,5 @@ returns g c =
     let e = ne_eqb c.args.head 1 c.if-head-eq1.false in
     let best = c.args.best.now in
     let m = message Return c.args.known.now.sender c.args.head c.args.search best.plan best.cost in
-    let lost = c.is-err.ensures.value in
+    let lost = c.is_err.ensures.value in
     record { rests = refl; home = sym e; sent = rw e (simp lost (sent_one _ _ _ _ m c.send.result c.send.ensures)) }

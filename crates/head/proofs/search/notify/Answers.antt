@@ -10,4 +10,4 @@ returns g c =
     let found = c.args.found in
     let m = message Notice c.args.head c.args.head c.args.search found.plan found.cost in
     sent_unlost _ _ _ _ _ _ (notices_not_lost _ _ m (others c.args.job.now c.args.head) refl)
-    (sent_collected c.args.job.now (λ h. not (eqb h c.args.head)) c.others.result m _ _ _ _ _ _ c.others.ensures refl c.send-each.ensures)
+    (sent_collected c.args.job.now (λ h. not (eqb h c.args.head)) c.others.result m _ _ _ _ _ _ c.others.ensures refl c.send_each.ensures)

@@ -11,13 +11,13 @@ loop-message-init g c = (refl, rw (append-nil (g.L.Link.bag c.args.link.now)) (s
 
 pub loop-message-preserved : goal.loop-message-preserved
 loop-message-preserved g c =
-    let posted = c.in-ok-post.ensures in
+    let posted = c.in_ok-post.ensures in
     (posted.1 ∙ c.loop-message.invariant.0, posted_more _ _ _ c.args.messages.now c.loop-message.message-index c.message-item.result (omega arith) c.message-item.is c.loop-message.invariant.1 posted.2)
 
-pub returns-in-err-post : goal.returns-in-err-post
-returns-in-err-post g c =
+pub returns-in_err-post : goal.returns-in_err-post
+returns-in_err-post g c =
     let p = err_from_is_err_and c.from-residual.result c.from-residual.ensures.1 in
-    let full = c.in-err-post.ensures in
+    let full = c.in_err-post.ensures in
     let inv = c.loop-message.invariant in
     let many = too_many _ _ c.args.messages.now c.loop-message.message-index _ (omega arith) inv.1 (full.1 ∙ inv.0) in
     rw (p.1, p.2) (full.0, many, full.2 ∙ inv.0, omega (arith, same_length full.3, full.1, inv.0))

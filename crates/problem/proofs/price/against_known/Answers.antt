@@ -6,8 +6,8 @@ use Rattle.problem.proofs.Naming.{setups_few}
 use Rattle.problem.proofs.Walks.{comparable, head_range}
 use Rattle.problem.proofs.price.against_known.Goals as goal
 
-pub against-range-requires : goal.against-range-requires
-against-range-requires g c =
+pub against_range-requires : goal.against_range-requires
+against_range-requires g c =
     let j = c.args.job.now in
     let q = c.args.plan.now in
     let h = c.args.head in

@@ -3,10 +3,10 @@ use Rattle.problem.specs.Costs.{Comparable}
 use Rattle.problem.proofs.Naming.{setups_few}
 use Rattle.problem.proofs.Walks.{comparable, some_named, named_of_job, pairs_step, pairs_skip, pairs_done}
 use Rattle.problem.proofs.price.plan_cost_known.Goals as goal
-use Rattle.problem.proofs.price.plan_cost_known.Goals.{in-Some, in-default}
+use Rattle.problem.proofs.price.plan_cost_known.Goals.{in-Some, in_default}
 
-pub against-range-requires : goal.against-range-requires
-against-range-requires g c =
+pub against_range-requires : goal.against_range-requires
+against_range-requires g c =
     let j = c.args.job.now in
     let q = c.args.plan.now in
     let a = c.loop-a.a in
@@ -23,10 +23,10 @@ loop-a-preserved g c =
     elim c.match-setup.branch [
       | in-Some w ↦
           let is = w.sum-is ∙ w.join-sum.ensures in
-          let cost = w.against-range.ensures in
+          let cost = w.against_range.ensures in
           simp (is, cost) (pairs_step laws c.args.costs.now c.args.plan.now c.loop-a.a end c.loop-a.sum _ c.loop-a.invariant w.in-Some.i c.loop-a-test.true (sym c.setup.ensures ∙ w.in-Some.is))
-      | in-default w ↦
-          simp w.sum-is (pairs_skip laws c.args.costs.now c.args.plan.now c.loop-a.a end c.loop-a.sum _ c.loop-a.invariant c.loop-a-test.true (sym c.setup.ensures ∙ w.in-default.is))
+      | in_default w ↦
+          simp w.sum-is (pairs_skip laws c.args.costs.now c.args.plan.now c.loop-a.a end c.loop-a.sum _ c.loop-a.invariant c.loop-a-test.true (sym c.setup.ensures ∙ w.in_default.is))
     ]
 
 pub returns : goal.returns

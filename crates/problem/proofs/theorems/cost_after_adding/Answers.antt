@@ -20,8 +20,8 @@ after_naming laws costs j h i q long ask =
     let range = head_range j h (omega arith) in
     sym (naming_joins_costs laws costs j q h i long range.0 range.1 (omega (arith, setups_few j h)) (not-true _ parts.1))
 
-pub plan-cost-known-requires : goal.plan-cost-known-requires
-plan-cost-known-requires g c =
+pub plan_cost_known-requires : goal.plan_cost_known-requires
+plan_cost_known-requires g c =
     let a = priced_answered c.args.costs.now _ _ _ (sym c.in-Ok.is ∙ c.requires) in
     record { room = a.0; of_job = (and_parts _ _ a.1).0 }
 
@@ -38,7 +38,7 @@ returns-in-Ok g c =
     let e = sym c.in-Ok.is ∙ c.requires in
     let a = priced_answered costs _ _ _ e in
     let is : c.join.result ≡ plan_cost s costs j (name q h i) =
-    simp (c.join.ensures, c.plan-cost-known.ensures, a.2) (after_naming laws costs j h i q long a.1) in
+    simp (c.join.ensures, c.plan_cost_known.ensures, a.2) (after_naming laws costs j h i q long a.1) in
     record {
       value = ap Ok is ∙ priced_again costs _ _ _ _ e;
       naming = naming_joins_costs laws;

@@ -4,8 +4,8 @@ use Rattle.problem.proofs.Pruning.{children_cover}
 use Rattle.problem.proofs.Weights.{expanding_fits, roots_weigh, plans_few}
 use Rattle.problem.proofs.theorems.weight_of_plans.Goals as goal
 
-pub overflow-mul-result-2 : goal.overflow-mul-result-2
-overflow-mul-result-2 c =
+pub overflow_mul-result-2 : goal.overflow_mul-result-2
+overflow_mul-result-2 c =
     let j = c.args.job.now in
     let n = c.heads-heads.result in
     let sides : (n - 1) * (n + 3) ≤ 7 * 11 = mul-le (n - 1) (n + 3) 7 11 (omega (arith, j.eight)) (omega (arith, j.eight)) in

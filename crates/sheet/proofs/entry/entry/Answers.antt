@@ -6,10 +6,10 @@ use Rattle.sheet.proofs.entry.entry.Goals as goal
 
 pub returns : goal.returns
 returns g c =
-    let w = c.byte-count-width.result in
+    let w = c.byte_count-width.result in
     let width = g.S.Scale.coding.width in
     let n = c.args.n in
-    let is : w ≡ width = c.byte-count-width.ensures in
+    let is : w ≡ width = c.byte_count-width.ensures in
     let long : 2 * w * n + 2 * w - 2 * w * n ≡ 2 * width = omega arith in
     let from : 2 * w * n ≡ 2 * width * n = rw is in
     c.cost_of.ensures

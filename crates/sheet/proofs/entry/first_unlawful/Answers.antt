@@ -16,7 +16,7 @@ loop-j-preserved g c =
     let lt : k < total = omega (arith, mul-add-lt c.rows.i columns c.loop-j.j c.args.rows c.rows-test.true c.loop-j-test.true) in
     let next : k + 1 ≡ columns * c.rows.i + (c.loop-j.j + 1) = omega arith in (
       c.loop-j.invariant.0,
-      c.loop-j.invariant.1 ∙ fails_on good k total lt (ap is_some (sym c.entry.ensures) ∙ c.if-is-none.ensures) ∙ ap (λ (m : ℕ). first_fails good m (total - m)) next,
+      c.loop-j.invariant.1 ∙ fails_on good k total lt (ap is_some (sym c.entry.ensures) ∙ c.if-is_none.ensures) ∙ ap (λ (m : ℕ). first_fails good m (total - m)) next,
     )
 
 pub returns-after-rows : goal.returns-after-rows
@@ -26,11 +26,11 @@ returns-after-rows g c =
     let all : c.rows.i ≡ c.args.rows = omega arith in
     c.rows.invariant.0 ∙ sym (ap (celled columns) (c.rows.invariant.1 ∙ fails_none good (columns * c.rows.i) (columns * c.args.rows) (rw all (omega arith))))
 
-pub returns-then-is-none : goal.returns-then-is-none
-returns-then-is-none g c =
+pub returns-then-is_none : goal.returns-then-is_none
+returns-then-is_none g c =
     let good : ℕ → Bool = λ n. is_some (entry g.S.Scale.coding c.args.digits.now n) in
     let columns = c.args.columns in
     let total = columns * c.args.rows in
     let k = columns * c.rows.i + c.loop-j.j in
     let lt : k < total = omega (arith, mul-add-lt c.rows.i columns c.loop-j.j c.args.rows c.rows-test.true c.loop-j-test.true) in
-    sym (ap (celled columns) (c.loop-j.invariant.1 ∙ fails_here good k total lt (ap is_some (sym c.entry.ensures) ∙ c.if-is-none.ensures)) ∙ ap Some (cell_at columns c.rows.i c.loop-j.j c.loop-j-test.true))
+    sym (ap (celled columns) (c.loop-j.invariant.1 ∙ fails_here good k total lt (ap is_some (sym c.entry.ensures) ∙ c.if-is_none.ensures)) ∙ ap Some (cell_at columns c.rows.i c.loop-j.j c.loop-j-test.true))

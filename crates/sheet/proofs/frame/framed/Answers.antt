@@ -13,10 +13,10 @@ short ds h k = rw (lt-leb 6 (length ds) h, le-leb 2 (length ds) k)
 
 pub returns-in-len6-up : goal.returns-in-len6-up
 returns-in-len6-up c =
-    let h = rw (c.byte-in-len6-up.ensures, c.byte-in-len6-up-2.ensures, c.byte-in-len6-up-3.ensures) at c.from-fields.ensures in
+    let h = rw (c.byte-in-len6-up.ensures, c.byte-in-len6-up-2.ensures, c.byte-in-len6-up-3.ensures) at c.from_fields.ensures in
     h ∙ full c.args.digits.now (omega (arith, ltb-false))
 
 pub returns-in-len2-up : goal.returns-in-len2-up
 returns-in-len2-up c =
-    let h = rw c.byte.ensures at c.from-kind.ensures in
+    let h = rw c.byte.ensures at c.from_kind.ensures in
     h ∙ short c.args.digits.now (omega (arith, ltb-true, ltb-false)) (omega (arith, ltb-true, ltb-false))

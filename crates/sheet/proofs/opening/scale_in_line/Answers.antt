@@ -9,7 +9,7 @@ use Rattle.sheet.proofs.opening.scale_in_line.Goals as goal
 pub returns-in-Some : goal.returns-in-Some
 returns-in-Some c =
     let is = framed_some c.args.line.now _ c.in-Some.ensures in
-    c.scale-of-frame.ensures ∙ ap scale_said is.1 ∙ sym (cond-true _ _ Minutes is.0)
+    c.scale_of_frame.ensures ∙ ap scale_said is.1 ∙ sym (cond-true _ _ Minutes is.0)
 
 pub returns-in-None : goal.returns-in-None
 returns-in-None c =

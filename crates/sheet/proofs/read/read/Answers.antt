@@ -6,5 +6,5 @@ use Rattle.sheet.proofs.read.read.Goals as goal
 pub returns-then-costs-lt-PLACES : goal.returns-then-costs-lt-PLACES
 returns-then-costs-lt-PLACES g c = record { exact = too_little (omega arith) refl refl; judged = Judgements.too_little (omega arith) refl refl; laid = refl }
 
-pub returns-then-sheet-gt-MOST-BYTES : goal.returns-then-sheet-gt-MOST-BYTES
-returns-then-sheet-gt-MOST-BYTES g c = record { exact = too_long (omega arith) (omega arith) refl refl; judged = Judgements.too_long (omega arith) (omega arith) refl refl; laid = refl }
+pub returns-then-sheet-gt-MOST_BYTES : goal.returns-then-sheet-gt-MOST_BYTES
+returns-then-sheet-gt-MOST_BYTES g c = record { exact = too_long (omega arith) (omega arith) refl refl; judged = Judgements.too_long (omega arith) (omega arith) refl refl; laid = refl }

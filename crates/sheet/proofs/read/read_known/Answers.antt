@@ -4,11 +4,11 @@ use Rattle.sheet.proofs.read.read_known.Goals as goal
 
 pub returns : goal.returns
 returns g c =
-    let exact = c.read-exactly.ensures in
+    let exact = c.read_exactly.ensures in
     let sheet = c.args.sheet.now in
     let before = c.args.costs.now in
     record {
       exact = exact;
       judged = judged g.S.Scale.coding g.S.Scale.scale sheet before _ _ exact;
-      laid = lays_out g.S.Scale.scale g.S.Scale.coding sheet before _ c.read-exactly.result exact;
+      laid = lays_out g.S.Scale.scale g.S.Scale.coding sheet before _ c.read_exactly.result exact;
     }

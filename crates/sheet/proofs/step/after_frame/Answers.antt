@@ -20,9 +20,9 @@ either : {A B : Type 0} (r : Result Progress Breach) → A → B → MatchResult
 either (Ok t) a b = a
 either (Err e) a b = b
 
-pub returns-then-not-is-due : goal.returns-then-not-is-due
-returns-then-not-is-due g c =
-    let due_not = ap (due c.args.s.stage) (sym c.kind.ensures) ∙ sym c.if-not-is-due.ensures in
+pub returns-then-not-is_due : goal.returns-then-not-is_due
+returns-then-not-is_due g c =
+    let due_not = ap (due c.args.s.stage) (sym c.kind.ensures) ∙ sym c.if-not-is_due.ensures in
     record { value = not_due g.S.Scale.coding c.args.s (said c.args.frame) due_not; sound = tt; memory = refl }
 
 pub returns-in-Opening : goal.returns-in-Opening
@@ -30,11 +30,11 @@ returns-in-Opening g c =
     let coding = g.S.Scale.coding in
     let s = c.args.s in
     let is = ap said c.in-Opening.is in
-    let is_due = ap (due s.stage) (sym c.kind.ensures) ∙ sym c.if-not-is-due.ensures in
+    let is_due = ap (due s.stage) (sym c.kind.ensures) ∙ sym c.if-not-is_due.ensures in
     record {
-      value = read_due coding s (said c.args.frame) _ is_due (c.after-opening.ensures.value ∙ sym (ap (frame_read coding s) is));
-      sound = c.after-opening.ensures.sound;
-      memory = either c.after-opening.result (sym (ap (λ f. frame_laid coding s f c.args.costs.now) is)) refl;
+      value = read_due coding s (said c.args.frame) _ is_due (c.after_opening.ensures.value ∙ sym (ap (frame_read coding s) is));
+      sound = c.after_opening.ensures.sound;
+      memory = either c.after_opening.result (sym (ap (λ f. frame_laid coding s f c.args.costs.now) is)) refl;
     }
 
 pub returns-in-Head : goal.returns-in-Head
@@ -42,11 +42,11 @@ returns-in-Head g c =
     let coding = g.S.Scale.coding in
     let s = c.args.s in
     let is = ap said c.in-Head.is in
-    let is_due = ap (due s.stage) (sym c.kind.ensures) ∙ sym c.if-not-is-due.ensures in
+    let is_due = ap (due s.stage) (sym c.kind.ensures) ∙ sym c.if-not-is_due.ensures in
     record {
-      value = read_due coding s (said c.args.frame) _ is_due (c.after-head.ensures.value ∙ sym (ap (frame_read coding s) is));
-      sound = c.after-head.ensures.sound;
-      memory = either c.after-head.result (sym (ap (λ f. frame_laid coding s f c.args.costs.now) is)) refl;
+      value = read_due coding s (said c.args.frame) _ is_due (c.after_head.ensures.value ∙ sym (ap (frame_read coding s) is));
+      sound = c.after_head.ensures.sound;
+      memory = either c.after_head.result (sym (ap (λ f. frame_laid coding s f c.args.costs.now) is)) refl;
     }
 
 pub returns-in-Table : goal.returns-in-Table
@@ -54,11 +54,11 @@ returns-in-Table g c =
     let coding = g.S.Scale.coding in
     let s = c.args.s in
     let is = ap said c.in-Table.is in
-    let is_due = ap (due s.stage) (sym c.kind.ensures) ∙ sym c.if-not-is-due.ensures in
+    let is_due = ap (due s.stage) (sym c.kind.ensures) ∙ sym c.if-not-is_due.ensures in
     record {
-      value = read_due coding s (said c.args.frame) _ is_due (c.after-table.ensures.value ∙ sym (ap (frame_read coding s) is));
-      sound = c.after-table.ensures.sound;
-      memory = subst (λ f. MatchResult c.after-table.result (λ _. c.after-table.new.costs ≡ frame_laid coding s f c.args.costs.now) (λ _. c.after-table.new.costs ≡ c.args.costs.now)) (sym is) c.after-table.ensures.memory;
+      value = read_due coding s (said c.args.frame) _ is_due (c.after_table.ensures.value ∙ sym (ap (frame_read coding s) is));
+      sound = c.after_table.ensures.sound;
+      memory = subst (λ f. MatchResult c.after_table.result (λ _. c.after_table.new.costs ≡ frame_laid coding s f c.args.costs.now) (λ _. c.after_table.new.costs ≡ c.args.costs.now)) (sym is) c.after_table.ensures.memory;
     }
 
 pub returns-in-End : goal.returns-in-End
@@ -66,7 +66,7 @@ returns-in-End g c =
     let coding = g.S.Scale.coding in
     let s = c.args.s in
     let is = ap said c.in-End.is in
-    let is_due = ap (due s.stage) (sym c.kind.ensures) ∙ sym c.if-not-is-due.ensures in
+    let is_due = ap (due s.stage) (sym c.kind.ensures) ∙ sym c.if-not-is_due.ensures in
     record {
       value = read_due coding s (said c.args.frame) _ is_due (sym (ap (frame_read coding s) is));
       sound = search rules;
@@ -78,7 +78,7 @@ returns-in-Misshapen g c =
     let coding = g.S.Scale.coding in
     let s = c.args.s in
     let is = ap said c.in-Misshapen.is in
-    let is_due = ap (due s.stage) (sym c.kind.ensures) ∙ sym c.if-not-is-due.ensures in
+    let is_due = ap (due s.stage) (sym c.kind.ensures) ∙ sym c.if-not-is_due.ensures in
     record {
       value = read_due coding s (said c.args.frame) _ is_due (sym (ap (frame_read coding s) is));
       sound = tt;
@@ -90,7 +90,7 @@ returns-in-Unknown g c =
     let coding = g.S.Scale.coding in
     let s = c.args.s in
     let is = ap said c.in-Unknown.is in
-    let is_due = ap (due s.stage) (sym c.kind.ensures) ∙ sym c.if-not-is-due.ensures in
+    let is_due = ap (due s.stage) (sym c.kind.ensures) ∙ sym c.if-not-is_due.ensures in
     record {
       value = read_due coding s (said c.args.frame) _ is_due (sym (ap (frame_read coding s) is));
       sound = tt;

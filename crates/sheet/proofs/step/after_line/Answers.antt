@@ -10,9 +10,9 @@ returns-in-Some g c =
     let is = framed_some c.args.line.now _ c.in-Some.ensures in
     let c' = g.S.Scale.coding in
     record {
-      value = c.after-frame.ensures.value ∙ ap (step c' c.args.s) is.1 ∙ sym (cond-true _ _ _ is.0);
-      sound = c.after-frame.ensures.sound;
-      memory = subst (λ (f : Said). MatchResult c.after-frame.result (λ _. c.after-frame.new.costs ≡ frame_laid c' c.args.s f c.args.costs.now) (λ _. c.after-frame.new.costs ≡ c.args.costs.now)) is.1 c.after-frame.ensures.memory;
+      value = c.after_frame.ensures.value ∙ ap (step c' c.args.s) is.1 ∙ sym (cond-true _ _ _ is.0);
+      sound = c.after_frame.ensures.sound;
+      memory = subst (λ (f : Said). MatchResult c.after_frame.result (λ _. c.after_frame.new.costs ≡ frame_laid c' c.args.s f c.args.costs.now) (λ _. c.after_frame.new.costs ≡ c.args.costs.now)) is.1 c.after_frame.ensures.memory;
     }
 
 pub returns-in-None : goal.returns-in-None

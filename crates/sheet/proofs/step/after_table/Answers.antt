@@ -29,7 +29,7 @@ returns g c =
       | else-costs-ge-PLACES w ↦ w.costs-is ∙ laid_somewhere e sh.columns sh.pair sh.rows c.args.costs.now c.requires.room w.if-costs-ge-PLACES.false
     ] in
     record {
-      value = table_accepted g.S.Scale.coding c.args.s c.args.first c.args.second c.args.digits.now sh f c.if-s-pair.false (sym c.in-default-first-unlawful.ensures);
+      value = table_accepted g.S.Scale.coding c.args.s c.args.first c.args.second c.args.digits.now sh f c.if-s-pair.false (sym c.in_default-first_unlawful.ensures);
       sound = record { few = c.requires.sound.few; staged = c.requires.sound.staged; each = c.requires.sound.each; rest = c.requires.sound.rest };
       memory = rw (f.columns_are, f.pair_is, f.rows_are) at laid;
     }

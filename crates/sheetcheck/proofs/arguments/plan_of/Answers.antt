@@ -2,7 +2,7 @@ use Rattle.std.proofs.Common.{◌≡◌, ℕ, ◌+◌, Ok, string_bytes, sym, ap
 use Rattle.job.specs.Plans.{name}
 use Rattle.sheetcheck.proofs.Completing.{NamedBelow, named_below_first, named_below_next, named_below_complete, named_below_spelled, given_is_spelled, none_is_spelled}
 use Rattle.sheetcheck.proofs.arguments.plan_of.Goals as goal
-use Rattle.sheetcheck.proofs.arguments.plan_of.Goals.{else-loop-head-test, then-loop-head-test+in-ok-setup+else·-head-heads}
+use Rattle.sheetcheck.proofs.arguments.plan_of.Goals.{else-loop-head-test, then-loop-head-test+in_ok-setup+else·-head-heads}
 
 pub returns-then-words-heads : goal.returns-then-words-heads
 returns-then-words-heads c = record {
@@ -11,11 +11,11 @@ returns-then-words-heads c = record {
   count = λ _. rw c.heads-heads.ensures;
 }
 
-pub returns-in-err-setup : goal.returns-in-err-setup
-returns-in-err-setup c = record {
+pub returns-in_err-setup : goal.returns-in_err-setup
+returns-in_err-setup c = record {
   complete = search rules;
   spelled = λ q s. absurd (none_is_spelled string_bytes c.args.job.now c.args.words.now c.loop-head.head c.loop-head.auto.head (search rules)
-      c.index-words-head.result c.index-words-head.is c.as-str.result.now c.as-str.ensures.value c.setup-of.result c.setup-of.ensures.named _ c.in-err-setup.was q s);
+      c.index-words-head.result c.index-words-head.is c.as_str.result.now c.as_str.ensures.value c.setup_of.result c.setup_of.ensures.named _ c.in_err-setup.was q s);
   count = λ other. absurd (other (c.if-words-heads.false ∙ c.heads-heads.ensures));
 }
 
@@ -25,9 +25,9 @@ loop-head-init c = rw c.empty-plan.ensures (named_below_first string_bytes c.arg
 pub loop-head-preserved : goal.loop-head-preserved
 loop-head-preserved c =
     let says = given_is_spelled string_bytes c.args.job.now c.args.words.now c.loop-head.head c.loop-head.auto.head (search rules)
-    c.index-words-head.result c.index-words-head.is c.as-str.result.now c.as-str.ensures.value c.setup-of.result c.setup-of.ensures.named _ c.in-ok-setup.was in
-    rw c.name-plan.ensures (named_below_next string_bytes c.args.job.now c.args.words.now c.loop-head.plan c.loop-head.head c.in-ok-setup.setup
-    (search rules) c.loop-head.auto.head (search rules) c.in-ok-setup.ensures.within says c.loop-head.invariant)
+    c.index-words-head.result c.index-words-head.is c.as_str.result.now c.as_str.ensures.value c.setup_of.result c.setup_of.ensures.named _ c.in_ok-setup.was in
+    rw c.name-plan.ensures (named_below_next string_bytes c.args.job.now c.args.words.now c.loop-head.plan c.loop-head.head c.in_ok-setup.setup
+    (search rules) c.loop-head.auto.head (search rules) c.in_ok-setup.ensures.within says c.loop-head.invariant)
 
 pub returns : goal.returns
 returns c =
@@ -38,12 +38,12 @@ returns c =
     let all : NamedBelow string_bytes job words plan (job.heads + 1) =
     elim c.loop-head-test.branch [
       | else-loop-head-test w ↦ absurd (omega (arith, job.one))
-      | then-loop-head-test+in-ok-setup+else·-head-heads w ↦
+      | then-loop-head-test+in_ok-setup+else·-head-heads w ↦
           let says = given_is_spelled string_bytes job words head c.loop-head.auto.head (search rules)
-          w.index-words-head.result w.index-words-head.is w.as-str.result.now w.as-str.ensures.value w.setup-of.result w.setup-of.ensures.named _ w.in-ok-setup.was in
+          w.index-words-head.result w.index-words-head.is w.as_str.result.now w.as_str.ensures.value w.setup_of.result w.setup_of.ensures.named _ w.in_ok-setup.was in
           let last : head ≡ job.heads = search rules in
-          rw (w.plan-is, w.name-plan.ensures) (subst (λ (n : ℕ). NamedBelow string_bytes job words (name c.loop-head.plan head w.in-ok-setup.setup) (n + 1)) last (named_below_next string_bytes job words c.loop-head.plan head w.in-ok-setup.setup
-          (search rules) c.loop-head.auto.head (search rules) w.in-ok-setup.ensures.within says c.loop-head.invariant))
+          rw (w.plan-is, w.name-plan.ensures) (subst (λ (n : ℕ). NamedBelow string_bytes job words (name c.loop-head.plan head w.in_ok-setup.setup) (n + 1)) last (named_below_next string_bytes job words c.loop-head.plan head w.in_ok-setup.setup
+          (search rules) c.loop-head.auto.head (search rules) w.in_ok-setup.ensures.within says c.loop-head.invariant))
     ] in
     record {
       complete = named_below_complete string_bytes job words plan all;

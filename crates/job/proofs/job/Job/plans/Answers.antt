@@ -2,8 +2,8 @@ use Rattle.std.proofs.Common.{ℕ, ◌+◌, ◌*◌, get_or, sym, ap, ◌∙◌,
 use Rattle.job.proofs.Readings.{product_step, product_end, power_step, power_small}
 use Rattle.job.proofs.job.Job.plans.Goals as goal
 
-pub overflow-mul-product : goal.overflow-mul-product
-overflow-mul-product c =
+pub overflow_mul-product : goal.overflow_mul-product
+overflow_mul-product c =
     let j = c.args.self.now in
     let k = c.loop-k.k in
     let small = power_small _ (k + 1) (power_step c.loop-k.product (get_or j.setups k 0) k c.loop-k.invariant.0 (j.few k)) (omega (arith, j.eight)) in

@@ -16,16 +16,16 @@ inside d h l = grind (arith, nat_tests)
 
 pub returns-then-count-lt1 : goal.returns-then-count-lt1
 returns-then-count-lt1 c =
-    let d = get_or c.args.counts.now c.loop-count.count_index 0 in
+    let d = get_or c.args.counts.now c.loop-count.count-index 0 in
     let out : in_range d ≡ false = elim c.then-count-lt1.branch [ then-count-lt1-via-then-count-lt1 w ↦ low d w.if-count-lt1.true | then-count-lt1-via-else-count-lt1+then-count-gt8 w ↦ high d w.if-count-gt8.true ] in
-    sym (every_drop_fails in_range c.args.counts.now c.loop-count.count_index 0 (omega arith) out) ∙ c.loop-count.invariant
+    sym (every_drop_fails in_range c.args.counts.now c.loop-count.count-index 0 (omega arith) out) ∙ c.loop-count.invariant
 
 pub loop-count-preserved : goal.loop-count-preserved
 loop-count-preserved c =
-    let d = get_or c.args.counts.now c.loop-count.count_index 0 in
+    let d = get_or c.args.counts.now c.loop-count.count-index 0 in
     let some : 1 ≤ d = omega arith in
     let few : d ≤ 8 = omega arith in
-    sym (every_drop_passes in_range c.args.counts.now c.loop-count.count_index 0 (omega arith) (inside d some few)) ∙ c.loop-count.invariant
+    sym (every_drop_passes in_range c.args.counts.now c.loop-count.count-index 0 (omega arith) (inside d some few)) ∙ c.loop-count.invariant
 
 pub returns : goal.returns
-returns c = sym (every_drop_all in_range c.args.counts.now c.loop-count.count_index (omega arith)) ∙ c.loop-count.invariant
+returns c = sym (every_drop_all in_range c.args.counts.now c.loop-count.count-index (omega arith)) ∙ c.loop-count.invariant

@@ -6,4 +6,4 @@ pub returns : goal.returns
 returns c =
     let n = length c.args.counts.now in
     let e : n - 0 ≡ n = omega arith in
-    ap₂ ◌++◌ c.copy-from-slice.ensures.after (ap (λ (m : ℕ). drop m (replicate 8 0)) e ∙ drop-replicate n 8 0)
+    ap₂ ◌++◌ c.copy_from_slice.ensures.after (ap (λ (m : ℕ). drop m (replicate 8 0)) e ∙ drop-replicate n 8 0)

@@ -7,8 +7,8 @@ use Rattle.link.proofs.Rows.{Next, length_waiting, turned_capped, added_last}
 use Rattle.link.proofs.first_in.FirstIn.add.Goals as goal
 use Rattle.link.proofs.first_in.FirstIn.add.Goals.{then-self-gap, else-self-gap}
 
-pub offset-bounds-self-at : goal.offset-bounds-self-at
-offset-bounds-self-at g c =
+pub offset_bounds-self-at : goal.offset_bounds-self-at
+offset_bounds-self-at g c =
     let s = c.args.self.now in
     let some = length_waiting s.count s.first s.places.now in
     let h : c.if-self-gap.at < length s.places.now = elim c.if-self-gap.branch [ then-self-gap w ↦ omega (arith, w.at-is) | else-self-gap w ↦ omega (arith, w.at-is) ] in
@@ -20,8 +20,8 @@ bounds-self-at g c =
     let some = length_waiting s.count s.first s.places.now in
     elim c.if-self-gap.branch [ then-self-gap w ↦ omega (arith, w.at-is) | else-self-gap w ↦ omega (arith, w.at-is) ]
 
-pub overflow-add-self : goal.overflow-add-self
-overflow-add-self g c =
+pub overflow_add-self : goal.overflow_add-self
+overflow_add-self g c =
     let s = c.args.self.now in
     let h : s.count < length s.places.now = omega (arith, length_waiting s.count s.first s.places.now) in
     search rules

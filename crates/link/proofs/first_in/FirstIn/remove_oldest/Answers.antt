@@ -12,8 +12,8 @@ bounds-self-first g c =
     let some = length_waiting s.count s.first s.places.now in
     elim c.if-self.branch [ then-self w ↦ omega (arith, w.first_is) | else-self w ↦ omega (arith, w.first_is) ]
 
-pub overflow-sub-self : goal.overflow-sub-self
-overflow-sub-self g c = let s = c.args.self.now in omega (arith, length_waiting s.count s.first s.places.now)
+pub overflow_sub-self : goal.overflow_sub-self
+overflow_sub-self g c = let s = c.args.self.now in omega (arith, length_waiting s.count s.first s.places.now)
 
 pub returns : goal.returns
 returns g c =

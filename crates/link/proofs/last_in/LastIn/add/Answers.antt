@@ -4,8 +4,8 @@ use Rattle.std.proofs.lemmas.List.{take_more_set, length-set}
 use Rattle.link.proofs.Bags.{same_last}
 use Rattle.link.proofs.last_in.LastIn.add.Goals as goal
 
-pub offset-bounds-self-used : goal.offset-bounds-self-used
-offset-bounds-self-used g c =
+pub offset_bounds-self-used : goal.offset_bounds-self-used
+offset_bounds-self-used g c =
     let s = c.args.self.now in
     let h : s.used < length s.places.now = omega (arith, length-take s.used s.places.now) in
     search rules
@@ -13,8 +13,8 @@ offset-bounds-self-used g c =
 pub bounds-self-used : goal.bounds-self-used
 bounds-self-used g c = let s = c.args.self.now in omega (arith, length-take s.used s.places.now)
 
-pub overflow-add-self : goal.overflow-add-self
-overflow-add-self g c =
+pub overflow_add-self : goal.overflow_add-self
+overflow_add-self g c =
     let s = c.args.self.now in
     let h : s.used < length s.places.now = omega (arith, length-take s.used s.places.now) in
     search rules

@@ -4,8 +4,8 @@ use Rattle.link.proofs.Bags.{same_last}
 use Rattle.link.proofs.Rows.{removed_last}
 use Rattle.link.proofs.last_in.LastIn.remove_newest.Goals as goal
 
-pub overflow-sub-left : goal.overflow-sub-left
-overflow-sub-left g c = let s = c.args.self.now in omega (arith, length-take s.used s.places.now)
+pub overflow_sub-left : goal.overflow_sub-left
+overflow_sub-left g c = let s = c.args.self.now in omega (arith, length-take s.used s.places.now)
 
 pub bounds-self-left : goal.bounds-self-left
 bounds-self-left g c = let s = c.args.self.now in omega (arith, length-take s.used s.places.now)

@@ -9,20 +9,20 @@ use Rattle.run.proofs.run.deliver.bring_home.Goals as goal
 pub returns-then-run-eq0 : goal.returns-then-run-eq0
 returns-then-run-eq0 g c =
     let link = c.args.link.now in
-    let last = c.stop-others.new.link in
+    let last = c.stop_others.new.link in
     let out = come_home c.args.run.now.out c.args.search in
-    let ms : cond (eqb out 0) (stops c.args.job.now c.args.best.now) [] ≡ stops c.args.job.now c.args.best.now = cond-true _ _ _ (eq-eqb out 0 (sym c.come-home-run.ensures ∙ c.if-run-eq0.true)) in
+    let ms : cond (eqb out 0) (stops c.args.job.now c.args.best.now) [] ≡ stops c.args.job.now c.args.best.now = cond-true _ _ _ (eq-eqb out 0 (sym c.come_home-run.ensures ∙ c.if-run-eq0.true)) in
     record {
-      run = ap (λ (o : ℕ). record { out = o; count = c.args.run.now.count }) c.come-home-run.ensures;
-      sent = subst (λ (xs : List (Message g.row.S.Denot)). Sent (g.L.Link.limit link) (g.L.Link.bag link) xs c.stop-others.result (g.L.Link.limit last) (g.L.Link.bag last)) (sym ms) c.stop-others.ensures;
+      run = ap (λ (o : ℕ). record { out = o; count = c.args.run.now.count }) c.come_home-run.ensures;
+      sent = subst (λ (xs : List (Message g.row.S.Denot)). Sent (g.L.Link.limit link) (g.L.Link.bag link) xs c.stop_others.result (g.L.Link.limit last) (g.L.Link.bag last)) (sym ms) c.stop_others.ensures;
     }
 
 pub returns : goal.returns
 returns g c =
     let link = c.args.link.now in
     let out = come_home c.args.run.now.out c.args.search in
-    let ms : cond (eqb out 0) (stops c.args.job.now c.args.best.now) [] ≡ [] = cond-false _ _ _ (ne_eqb out 0 (λ e. c.if-run-eq0.false (c.come-home-run.ensures ∙ e))) in
+    let ms : cond (eqb out 0) (stops c.args.job.now c.args.best.now) [] ≡ [] = cond-false _ _ _ (ne_eqb out 0 (λ e. c.if-run-eq0.false (c.come_home-run.ensures ∙ e))) in
     record {
-      run = ap (λ (o : ℕ). record { out = o; count = c.args.run.now.count }) c.come-home-run.ensures;
+      run = ap (λ (o : ℕ). record { out = o; count = c.args.run.now.count }) c.come_home-run.ensures;
       sent = subst (λ (xs : List (Message g.row.S.Denot)). Sent (g.L.Link.limit link) (g.L.Link.bag link) xs false (g.L.Link.limit link) (g.L.Link.bag link)) (sym ms) (sent_none _ _);
     }

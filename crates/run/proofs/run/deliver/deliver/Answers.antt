@@ -16,19 +16,19 @@ bounds-bests-0 g c =
     let h : 0 < length c.args.bests.now = omega (arith, did.0.bests) in
     search rules
 
-pub bring-home-stop-lost-requires : goal.bring-home-stop-lost-requires
-bring-home-stop-lost-requires g c = acts_search g.S.Scale.scale (has_acted g.S.Scale.scale c.in-Ok.ensures c.in-Done.is).2
+pub bring_home-stop_lost-requires : goal.bring_home-stop_lost-requires
+bring_home-stop_lost-requires g c = acts_search g.S.Scale.scale (has_acted g.S.Scale.scale c.in-Ok.ensures c.in-Done.is).2
 
-pub returns-then-is-stray : goal.returns-then-is-stray
-returns-then-is-stray g c =
+pub returns-then-is_stray : goal.returns-then-is_stray
+returns-then-is_stray g c =
     let s = g.S.Scale.scale in
     deliver_promise s g.met.S.Scale.lawful _ _ _
-    (refused_stray s c.args.run.now _ c.in-Err.ensures (sym c.is-stray.ensures ∙ c.if-is-stray.true) (ap (λ (n : ℕ). record { out = c.args.run.now.out; count = n }) c.saturating-add-run.ensures))
+    (refused_stray s c.args.run.now _ c.in-Err.ensures (sym c.is_stray.ensures ∙ c.if-is_stray.true) (ap (λ (n : ℕ). record { out = c.args.run.now.out; count = n }) c.saturating_add-run.ensures))
 
-pub returns-else-is-stray : goal.returns-else-is-stray
-returns-else-is-stray g c =
+pub returns-else-is_stray : goal.returns-else-is_stray
+returns-else-is_stray g c =
     let s = g.S.Scale.scale in
-    deliver_promise s g.met.S.Scale.lawful _ _ _ (refused_still s c.args.run.now c.in-Err.ensures (sym c.is-stray.ensures ∙ c.if-is-stray.false))
+    deliver_promise s g.met.S.Scale.lawful _ _ _ (refused_still s c.args.run.now c.in-Err.ensures (sym c.is_stray.ensures ∙ c.if-is_stray.false))
 
 pub returns-in-Owes : goal.returns-in-Owes
 returns-in-Owes g c =
@@ -37,10 +37,10 @@ returns-in-Owes g c =
     let costs = c.args.costs.now in
     let m = c.receive.new.place in
     let did = has_owed s c.in-Ok.ensures c.in-Owes.is in
-    let now = request_delivered s j costs _ _ _ _ _ _ _ _ c.args.run.now m c.in-Owes.owed did c.post-report.result _ _ c.post-report.ensures (record { out = c.args.run.now.out; count = c.saturating-add-run-2.result })
-    (ap (λ (n : ℕ). record { out = c.args.run.now.out; count = n }) c.saturating-add-run-2.ensures) in
+    let now = request_delivered s j costs _ _ _ _ _ _ _ _ c.args.run.now m c.in-Owes.owed did c.post_report.result _ _ c.post_report.ensures (record { out = c.args.run.now.out; count = c.saturating_add-run-2.result })
+    (ap (λ (n : ℕ). record { out = c.args.run.now.out; count = n }) c.saturating_add-run-2.ensures) in
     deliver_promise s g.met.S.Scale.lawful _ _ _
-    (told_so s _ _ m Request (is_err c.post-report.result) c.told.result (c.told.ensures ∙ ap (λ (b : Bool). cond b (Err LinkFull) (Ok Request)) c.is-err.ensures.value) did.0 (sym did.1) now)
+    (told_so s _ _ m Request (is_err c.post_report.result) c.told.result (c.told.ensures ∙ ap (λ (b : Bool). cond b (Err LinkFull) (Ok Request)) c.is_err.ensures.value) did.0 (sym did.1) now)
 
 pub returns-after-home : goal.returns-after-home
 returns-after-home g c =
@@ -58,24 +58,24 @@ returns-after-home g c =
     let home = c.in-Done.home in
     let lost = c.in-Done.lost in
     let did = has_acted s c.in-Ok.ensures c.in-Done.is in
-    let run₁ : Run = record { out = r.out; count = c.saturating-add-run-2.result } in
+    let run₁ : Run = record { out = r.out; count = c.saturating_add-run-2.result } in
     let run₂ : Run = record { out = r.out; count = counted r.count } in
-    let is : run₁ ≡ run₂ = ap (λ (n : ℕ). record { out = r.out; count = n }) c.saturating-add-run-2.ensures in
-    let now : Delivered s (at (lent j costs c.args.records.now c.args.bests.now (limit before) (bag before)) r) m (lost || c.if-home.stop-lost)
+    let is : run₁ ≡ run₂ = ap (λ (n : ℕ). record { out = r.out; count = n }) c.saturating_add-run-2.ensures in
+    let now : Delivered s (at (lent j costs c.args.records.now c.args.bests.now (limit before) (bag before)) r) m (lost || c.if-home.stop_lost)
     (at (lent j costs c.receive.new.records c.receive.new.bests (limit after) (bag after)) c.if-home.run) = elim c.if-home.branch [
       | then-home w ↦
-          let b = w.bring-home-stop-lost in
+          let b = w.bring_home-stop_lost in
           let run_is = w.run-is in
           let link_is = w.link_is in
-          let lost_is = w.stop-lost-is in
+          let lost_is = w.stop_lost-is in
           simp (run_is, link_is, lost_is)
           (came_home s j costs c.args.records.now c.receive.new.records c.args.bests.now c.receive.new.bests (limit before) (limit mid) (bag before) (bag mid) r m kind home lost did w.if-home.true
           (get_or c.receive.new.bests 0 w.index-bests-0.result) w.index-bests-0.result refl run₁ b.new.run is _ _ b.result b.ensures)
       | else-home w ↦
           let run_is = w.run-is in
           let link_is = w.link_is in
-          let lost_is = w.stop-lost-is ∙ w.if-home.false in
+          let lost_is = w.stop_lost-is ∙ w.if-home.false in
           simp (run_is, link_is, lost_is)
           (stayed_out s j costs c.args.records.now c.receive.new.records c.args.bests.now c.receive.new.bests (limit before) (limit mid) (bag before) (bag mid) r m kind home lost did w.if-home.false run₁ is)
     ] in
-    deliver_promise s g.met.S.Scale.lawful _ _ _ (told_so s _ _ m kind (lost || c.if-home.stop-lost) c.told-in-Done.result c.told-in-Done.ensures did.0 did.1 now)
+    deliver_promise s g.met.S.Scale.lawful _ _ _ (told_so s _ _ m kind (lost || c.if-home.stop_lost) c.told-in-Done.result c.told-in-Done.ensures did.0 did.1 now)

@@ -6,4 +6,4 @@ use Rattle.run.proofs.run.packing.bytes_joined.Goals as goal
 pub returns : goal.returns
 returns c =
     let x = c.args in
-    ap unpacked c.from-le-bytes.ensures ∙ unpack x.a x.b x.c x.d x.e x.f x.g x.h (omega arith, (omega arith, (omega arith, (omega arith, (omega arith, (omega arith, (omega arith, (omega arith, tt))))))))
+    ap unpacked c.from_le_bytes.ensures ∙ unpack x.a x.b x.c x.d x.e x.f x.g x.h (omega arith, (omega arith, (omega arith, (omega arith, (omega arith, (omega arith, (omega arith, (omega arith, tt))))))))

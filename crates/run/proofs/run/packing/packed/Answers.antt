@@ -6,4 +6,4 @@ pub returns : goal.returns
 returns c =
     let xs = c.args.plan.now.setups in
     let long : length xs ≡ 8 = omega arith in
-    c.bytes-joined.ensures ∙ sym (eight xs long)
+    c.bytes_joined.ensures ∙ sym (eight xs long)

@@ -3,4 +3,4 @@ use Rattle.run.proofs.Packing.{low_bytes_are}
 use Rattle.run.proofs.run.packing.setups.Goals as goal
 
 pub returns : goal.returns
-returns c = c.to-le-bytes.ensures ∙ low_bytes_are c.args.packed
+returns c = c.to_le_bytes.ensures ∙ low_bytes_are c.args.packed

@@ -6,7 +6,7 @@ use Rattle.job.specs.Lists.{every}
 use Rattle.sheet.specs.Lines.{ends, front, are_digits, is_line}
 use Rattle.sheet.specs.Frames.{Said, end, frame_of}
 use Rattle.sheet.proofs.frame.Frame.of_line.Goals as goal
-use Rattle.sheet.proofs.frame.Frame.of_line.Goals.{in-default-via-then-line-lt1, in-default-via-in-10+else-are-digits, in-default-via-else-line-lt1+in-default·}
+use Rattle.sheet.proofs.frame.Frame.of_line.Goals.{in_default-via-then-line-lt1, in_default-via-in-10+else-are_digits, in_default-via-else-line-lt1+in_default·}
 
 abbrev framed_line : List ℕ → Option Said
 framed_line l = cond (is_line l) (Some (frame_of l)) None
@@ -21,15 +21,15 @@ endless l e = sym (cond-false _ _ _ (and_left (ends l) _ e))
 digitless : (l : List ℕ) → are_digits (front l) ≡ false → None ≡ framed_line l
 digitless l e = sym (cond-false _ _ _ (and_right (ends l) _ e))
 
-pub returns-then-is-end-line : goal.returns-then-is-end-line
-returns-then-is-end-line c =
-    let is = (bytes_eq-Decides c.args.line.now (48 ∷ 52 ∷ 10 ∷ [])).0 (sym c.if-is-end-line.ensures) in
+pub returns-then-is_end_line : goal.returns-then-is_end_line
+returns-then-is_end_line c =
+    let is = (bytes_eq-Decides c.args.line.now (48 ∷ 52 ∷ 10 ∷ [])).0 (sym c.if-is_end_line.ensures) in
     sym end_line ∙ ap framed_line (sym is)
 
-pub returns-in-default : goal.returns-in-default
-returns-in-default c =
-    elim c.in-default.branch [
-      | in-default-via-then-line-lt1 w ↦ endless c.args.line.now (grind (arith, nat_tests))
-      | in-default-via-in-10+else-are-digits w ↦ digitless c.args.line.now (sym w.if-are-digits.ensures)
-      | in-default-via-else-line-lt1+in-default· w ↦ endless c.args.line.now (grind (arith, nat_tests))
+pub returns-in_default : goal.returns-in_default
+returns-in_default c =
+    elim c.in_default.branch [
+      | in_default-via-then-line-lt1 w ↦ endless c.args.line.now (grind (arith, nat_tests))
+      | in_default-via-in-10+else-are_digits w ↦ digitless c.args.line.now (sym w.if-are_digits.ensures)
+      | in_default-via-else-line-lt1+in_default· w ↦ endless c.args.line.now (grind (arith, nat_tests))
     ]
