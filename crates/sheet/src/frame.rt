@@ -40,7 +40,7 @@ pub enum Frame<'a> {
 fn is_end_line(line: &[u8]) -> bool
     ensures { result ≡ is_end line.now }
 {
-    line == b"04\n"
+    line == b"04\n".as_slice()
 }
 
 // The frame of a kind with two fields, and the digits after them.

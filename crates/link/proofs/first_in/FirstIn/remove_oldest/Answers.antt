@@ -10,7 +10,7 @@ pub bounds-self-first : goal.bounds-self-first
 bounds-self-first g c =
     let s = c.args.self.now in
     let some = length_waiting s.count s.first s.places.now in
-    elim c.if-self.branch [ then-self w ↦ omega (arith, w.first_is) | else-self w ↦ omega (arith, w.first_is) ]
+    elim c.if-self.branch [ then-self w ↦ omega (arith, w.first-is) | else-self w ↦ omega (arith, w.first-is) ]
 
 pub overflow_sub-self : goal.overflow_sub-self
 overflow_sub-self g c = let s = c.args.self.now in omega (arith, length_waiting s.count s.first s.places.now)
@@ -23,7 +23,7 @@ returns g c =
     let first = c.if-self.first in
     let some = length_waiting s.count s.first xs in
     let way : ((s.first < length xs) × (first ≡ s.first)) ⊎ ((length xs ≤ s.first) × (first ≡ 0)) =
-    elim c.if-self.branch [ then-self w ↦ inl (w.if-self.true, w.first_is) | else-self w ↦ inr (w.if-self.false, w.first_is) ]
+    elim c.if-self.branch [ then-self w ↦ inl (w.if-self.true, w.first-is) | else-self w ↦ inr (w.if-self.false, w.first-is) ]
     in
     let inside : first < length xs = ⊎_elim (λ w. omega (arith, w.0, w.1)) (λ w. omega (arith, w.1)) way in
     let m = get_or xs first c.index-self-first.result in

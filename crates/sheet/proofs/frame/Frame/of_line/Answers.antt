@@ -6,7 +6,7 @@ use Rattle.job.specs.Lists.{every}
 use Rattle.sheet.specs.Lines.{ends, front, are_digits, is_line}
 use Rattle.sheet.specs.Frames.{Said, end, frame_of}
 use Rattle.sheet.proofs.frame.Frame.of_line.Goals as goal
-use Rattle.sheet.proofs.frame.Frame.of_line.Goals.{in_default-via-then-line-lt1, in_default-via-in-10+else-are_digits, in_default-via-else-line-lt1+in_default·}
+use Rattle.sheet.proofs.frame.Frame.of_line.Goals.{in_default-via-then-line-lt1, in_default-via-in-10+else-are_digits, in_default-via-else-line-lt1+in_default-1}
 
 abbrev framed_line : List ℕ → Option Said
 framed_line l = cond (is_line l) (Some (frame_of l)) None
@@ -31,5 +31,5 @@ returns-in_default c =
     elim c.in_default.branch [
       | in_default-via-then-line-lt1 w ↦ endless c.args.line.now (grind (arith, nat_tests))
       | in_default-via-in-10+else-are_digits w ↦ digitless c.args.line.now (sym w.if-are_digits.ensures)
-      | in_default-via-else-line-lt1+in_default· w ↦ endless c.args.line.now (grind (arith, nat_tests))
+      | in_default-via-else-line-lt1+in_default-1 w ↦ endless c.args.line.now (grind (arith, nat_tests))
     ]
