@@ -16,6 +16,7 @@ use link::message::Message;
 use link::picker::{Highest, Lowest};
 use scale::minutes::Minutes;
 use show::{carry, pass_on, refusals};
+use std::process::ExitCode;
 use twelve::twelve;
 
 // Over a first-in link, and over a last-in one.
@@ -67,10 +68,17 @@ fn forwards(
     )
 }
 
-fn main(rt: HostRuntime) -> Result<(), Failure> {
+fn run(rt: &HostRuntime) -> Result<(), Failure> {
     let messages = twelve();
     let mut places = messages;
-    orders(&rt, &mut places, &messages)?;
-    forwards(&rt, &mut places, &messages)?;
-    refusals(&rt, &mut FirstIn::new(&mut places), &messages)
+    orders(rt, &mut places, &messages)?;
+    forwards(rt, &mut places, &messages)?;
+    refusals(rt, &mut FirstIn::new(&mut places), &messages)
+}
+
+fn main(rt: HostRuntime) -> ExitCode {
+    match run(&rt) {
+        Ok(()) => ExitCode::SUCCESS,
+        Err(_) => ExitCode::FAILURE,
+    }
 }

@@ -20,17 +20,20 @@ use scale::scale::Scale;
 use sheet::opening::{ScaleName, scale_named};
 use sheet::read::read;
 use std::io::Read;
-use std::{env, fmt};
+use std::process::ExitCode;
+use std::{env, fmt, io};
 
 // One byte more than a sheet may have, so that a longer one is seen to be too long.
 const BYTES_READ: u64 = 24_001;
 
-fn main(rt: HostRuntime) -> Result<(), Failure> {
-    let result = run(&rt);
-    if let Err(failure) = &result {
-        failure.tell(&rt)?;
+fn main(rt: HostRuntime) -> io::Result<ExitCode> {
+    match run(&rt) {
+        Ok(()) => Ok(ExitCode::SUCCESS),
+        Err(failure) => {
+            failure.tell(&rt)?;
+            Ok(ExitCode::FAILURE)
+        }
     }
-    result
 }
 
 fn run(rt: &HostRuntime) -> Result<(), Failure> {

@@ -18,13 +18,13 @@ loop-h-preserved g c =
       | then-has w ↦
           let link = w.send.new.link in
           let one = sent_one _ _ _ _ w.addressed.result w.send.result w.send.ensures in
-          let lost = w.lost_is ∙ ap (λ (b : Bool). c.loop-h.lost || b) w.is_err-lost.ensures.value in
+          let lost = w.lost-is ∙ ap (λ (b : Bool). c.loop-h.lost || b) w.is_err-lost.ensures.value in
           let is = w.addressed.ensures in
-          let go = w.link_is in
+          let go = w.link-is in
           simp (lost, go) (sent_below_more m p limit bag h c.loop-h.lost _ _ _ _ _ c.loop-h.auto.h (sym c.has.ensures ∙ w.if-has.true) c.loop-h.invariant (simp is at one))
       | else-has w ↦
-          let lost = w.lost_is in
-          let go = w.link_is in
+          let lost = w.lost-is in
+          let go = w.link-is in
           simp (lost, go) (sent_below_passed m p limit bag h c.loop-h.lost _ _ c.loop-h.auto.h (sym c.has.ensures ∙ w.if-has.false) c.loop-h.invariant)
     ]
 

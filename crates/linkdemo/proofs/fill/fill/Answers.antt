@@ -16,7 +16,7 @@ loop-message-preserved g c =
 
 pub returns-in_err-post : goal.returns-in_err-post
 returns-in_err-post g c =
-    let p = err_from_is_err_and c.from-residual.result c.from-residual.ensures.1 in
+    let p = err_from_is_err_and c.from_residual.result c.from_residual.ensures.1 in
     let full = c.in_err-post.ensures in
     let inv = c.loop-message.invariant in
     let many = too_many _ _ c.args.messages.now c.loop-message.message-index _ (omega arith) inv.1 (full.1 ∙ inv.0) in

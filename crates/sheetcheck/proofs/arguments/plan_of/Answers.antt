@@ -2,7 +2,7 @@ use Rattle.std.proofs.Common.{◌≡◌, ℕ, ◌+◌, Ok, string_bytes, sym, ap
 use Rattle.job.specs.Plans.{name}
 use Rattle.sheetcheck.proofs.Completing.{NamedBelow, named_below_first, named_below_next, named_below_complete, named_below_spelled, given_is_spelled, none_is_spelled}
 use Rattle.sheetcheck.proofs.arguments.plan_of.Goals as goal
-use Rattle.sheetcheck.proofs.arguments.plan_of.Goals.{else-loop-head-test, then-loop-head-test+in_ok-setup+else·-head-heads}
+use Rattle.sheetcheck.proofs.arguments.plan_of.Goals.{else-loop-head-test, then-loop-head-test+in_ok-setup+else-head-heads}
 
 pub returns-then-words-heads : goal.returns-then-words-heads
 returns-then-words-heads c = record {
@@ -38,7 +38,7 @@ returns c =
     let all : NamedBelow string_bytes job words plan (job.heads + 1) =
     elim c.loop-head-test.branch [
       | else-loop-head-test w ↦ absurd (omega (arith, job.one))
-      | then-loop-head-test+in_ok-setup+else·-head-heads w ↦
+      | then-loop-head-test+in_ok-setup+else-head-heads w ↦
           let says = given_is_spelled string_bytes job words head c.loop-head.auto.head (search rules)
           w.index-words-head.result w.index-words-head.is w.as_str.result.now w.as_str.ensures.value w.setup_of.result w.setup_of.ensures.named _ w.in_ok-setup.was in
           let last : head ≡ job.heads = search rules in

@@ -66,14 +66,14 @@ returns-after-home g c =
       | then-home w ↦
           let b = w.bring_home-stop_lost in
           let run_is = w.run-is in
-          let link_is = w.link_is in
+          let link_is = w.link-is in
           let lost_is = w.stop_lost-is in
           simp (run_is, link_is, lost_is)
           (came_home s j costs c.args.records.now c.receive.new.records c.args.bests.now c.receive.new.bests (limit before) (limit mid) (bag before) (bag mid) r m kind home lost did w.if-home.true
           (get_or c.receive.new.bests 0 w.index-bests-0.result) w.index-bests-0.result refl run₁ b.new.run is _ _ b.result b.ensures)
       | else-home w ↦
           let run_is = w.run-is in
-          let link_is = w.link_is in
+          let link_is = w.link-is in
           let lost_is = w.stop_lost-is ∙ w.if-home.false in
           simp (run_is, link_is, lost_is)
           (stayed_out s j costs c.args.records.now c.receive.new.records c.args.bests.now c.receive.new.bests (limit before) (limit mid) (bag before) (bag mid) r m kind home lost did w.if-home.false run₁ is)

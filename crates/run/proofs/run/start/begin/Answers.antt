@@ -29,8 +29,8 @@ loop-v-preserved g c =
     let out = c.loop-v.out in
     let v = c.loop-v.v in
     let is : c.if-turn.out ≡ cond t.home (come_home out v) out = elim c.if-turn.branch [
-      | then-turn w ↦ w.out_is ∙ w.come_home-out.ensures ∙ sym (cond-true _ _ _ w.if-turn.true)
-      | else-turn w ↦ w.out_is ∙ sym (cond-false _ _ _ w.if-turn.false)
+      | then-turn w ↦ w.out-is ∙ w.come_home-out.ensures ∙ sym (cond-true _ _ _ w.if-turn.true)
+      | else-turn w ↦ w.out-is ∙ sym (cond-false _ _ _ w.if-turn.false)
     ] in
     so_far_more g.S.Scale.scale c.args.job.now c.args.costs.now c.args.best.now _ _ v out c.loop-v.row c.loop-v.best _ _ (omega arith) c.loop-v.invariant
     c.sent_out.result c.sent_out.ensures t _ _ _ c.search_on-turn.ensures c.if-turn.out is
