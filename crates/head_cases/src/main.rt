@@ -22,6 +22,7 @@ use run::run;
 use scale::minutes::Minutes;
 use scale::scale::Scale;
 use start::lay_out;
+use std::process::ExitCode;
 use strays::STRAYS;
 
 const STATES: [State; 3] = [State::Resting, State::Gathering, State::Below];
@@ -52,18 +53,25 @@ fn each_of(
     Ok(())
 }
 
-fn main(rt: HostRuntime) -> Result<(), Failure> {
+fn all(rt: &HostRuntime) -> Result<(), Failure> {
     let job = Job::new(&[2, 2, 2])?;
     let mut costs = [Minutes::nothing(); PLACES];
     lay_out(&mut costs);
-    each_state_and_kind(&rt, &job, &costs)?;
-    each_of(&rt, "Stray messages", &job, &costs, &STRAYS)?;
-    each_of(&rt, "Requests and reports", &job, &costs, &ANSWERS)?;
+    each_state_and_kind(rt, &job, &costs)?;
+    each_of(rt, "Stray messages", &job, &costs, &STRAYS)?;
+    each_of(rt, "Requests and reports", &job, &costs, &ANSWERS)?;
     each_of(
-        &rt,
+        rt,
         "Plans, returns, notices and stops",
         &job,
         &costs,
         &PLANS,
     )
+}
+
+fn main(rt: HostRuntime) -> ExitCode {
+    match all(&rt) {
+        Ok(()) => ExitCode::SUCCESS,
+        Err(_) => ExitCode::FAILURE,
+    }
 }

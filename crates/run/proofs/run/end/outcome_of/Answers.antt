@@ -3,6 +3,6 @@ use Rattle.run.specs.declared.run.Outcome.TheVariants.{Found}
 use Rattle.run.specs.Ending.{Tells}
 use Rattle.run.proofs.run.end.outcome_of.Goals as goal
 
-pub returns-then-is-complete : goal.returns-then-is-complete
-returns-then-is-complete g c =
-    subst (λ (b : Bool). Tells g.S.Scale.scale c.args.best.now b (Found c.packed.result c.args.best.now.cost)) c.if-is-complete.ensures (c.packed.ensures, refl)
+pub returns-then-is_complete : goal.returns-then-is_complete
+returns-then-is_complete g c =
+    subst (λ (b : Bool). Tells g.S.Scale.scale c.args.best.now b (Found c.packed.result c.args.best.now.cost)) c.if-is_complete.ensures (c.packed.ensures, refl)

@@ -47,7 +47,7 @@ returns g c =
     let bests = c.clear_bests.new.bests in
     let first = get_or bests 0 c.index-bests-0.result in
     let fresh : first ≡ at_first s = ap (λ (xs : List (Best g.row.S.Denot)). get_or xs 0 c.index-bests-0.result) c.clear_bests.ensures in
-    let long : length c.begin_out.new.row ≡ 8 = c.begin_out.auto.row ∙ length-take-le 8 recs (omega (arith, c.clear_records.auto.records, e.records)) in
+    let long : length c.begin-out.new.row ≡ 8 = c.begin-out.auto.row ∙ length-take-le 8 recs (omega (arith, c.clear_records.auto.records, e.records)) in
     start_promise s g.met.S.Scale.lawful l _ _
     (Starts.granted e wide none
-    (begins s l recs c.begin_out.new.row bests first c.begin_out.new.best c.begin_out.result _ _ e wide none c.clear_records.ensures c.clear_bests.ensures fresh long c.begin_out.ensures))
+    (begins s l recs c.begin-out.new.row bests first c.begin-out.new.best c.begin-out.result _ _ e wide none c.clear_records.ensures c.clear_bests.ensures fresh long c.begin-out.ensures))
