@@ -1,14 +1,13 @@
 -- Laws of what a head does: its best, and how much it sends. Assumes nothing.
-use Rattle.std.proofs.Common.{◌≡◌, ℕ, zero, suc, ◌+◌, ◌<◌, ◌≤◌, Bool, true, false, cond, not, ◌&&◌, ◌||◌, eqb, ltb, ◌≢◌, ◌⊎◌, List, [], ◌∷◌, ◌++◌, map, length, sym, refl, ap, ◌∙◌, subst, ap₂, inl, inr, arith}
+use Rattle.std.proofs.Common.{◌≡◌, ℕ, zero, suc, ◌+◌, ◌<◌, ◌≤◌, Bool, true, false, cond, not, ◌&&◌, ◌||◌, eqb, ltb, List, [], ◌∷◌, length, sym, refl, ap, ◌∙◌, subst, ap₂, inl, inr, arith}
 use Rattle.std.specs.List.{range_with_len, AllByRecursion as All}
 use Rattle.std.proofs.lemmas.List.{length-map}
-use Rattle.std.proofs.lemmas.Bool.{cases_Bool, cases_eq, cases_lt, cond-true, cond-false, and_parts, and_from, both_ways, lt-ltb, ltb-true, leb-true, not-true}
+use Rattle.std.proofs.lemmas.Bool.{cases_Bool, cases_eq, cond-true, cond-false, and_parts, and_from, both_ways, lt-ltb, ltb-true, leb-true, not-true}
 use Rattle.scale.specs.Operations.{Operations, Laws, AtMost}
 use Rattle.job.specs.declared.job.Job.{Job}
 use Rattle.job.specs.declared.plan.Plan.{Plan}
 use Rattle.job.specs.Lists.{those, every}
 use Rattle.job.specs.Plans.{heads, setups, setup, named, name, unnamed_heads, is_head, is_setup, is_complete, is_of_job}
-use Rattle.problem.specs.Bags.{Out, here, there}
 use Rattle.problem.specs.Costs.{plan_cost, against}
 use Rattle.problem.proofs.Bags.{out_length}
 use Rattle.problem.proofs.Naming.{those_passes, those_fails, all_those, all_counting, out_unnamed, naming_joins_costs, setups_few, setup_name_same, setup_name_other, named_name_other}
@@ -24,7 +23,7 @@ use Rattle.head.specs.declared.record.State.TheVariants.{Resting, Gathering, Bel
 use Rattle.head.specs.declared.record.Record.{Record}
 use Rattle.head.specs.SetupSets.{has_setup, without_setup, members, first_setups}
 use Rattle.head.specs.Bests.{hopeless, adopted}
-use Rattle.head.specs.Searching.{Searched, Task, trial_plan, trial_cost, found, notices_of, asks, comes_back, after, trying, search_on}
+use Rattle.head.specs.Searching.{Searched, Task, trial_plan, trial_cost, found, notices_of, asks, after, trying}
 use Rattle.head.specs.Replies.{Reply, task, carried, is_last, at_least, on_report, goes_on, gathers_on, hands_on, reply}
 use Rattle.head.specs.Strays.{is_addressed, is_sound, sound_in, is_in_range, untried_fit, due, expects, fits}
 use Rattle.head.specs.HeadLaws.{Priced, Stands, Carries, BestNeverRises, BestStaysAPlan, FewPosts, ReportTellsTheBound}

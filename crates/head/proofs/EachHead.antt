@@ -1,5 +1,5 @@
 -- Collecting heads into a set, and sending to each of them: one head at a time. Assumes nothing.
-use Rattle.std.proofs.Common.{◌≡◌, ℕ, zero, suc, ◌+◌, ◌-◌, ◌<◌, ◌≤◌, Bool, true, false, cond, ◌||◌, ◌⊎◌, List, [], ◌∷◌, ◌++◌, map, length, is_err, Ok, Err, Result, sym, refl, ap, ◌∙◌, subst, inl, inr, append_assoc, append-nil, arith}
+use Rattle.std.proofs.Common.{◌≡◌, ℕ, zero, suc, ◌+◌, ◌-◌, ◌<◌, ◌≤◌, Bool, true, false, ◌||◌, List, [], ◌∷◌, ◌++◌, map, length, is_err, Ok, Err, Result, sym, refl, ap, ◌∙◌, subst, inl, inr, append-nil, arith}
 use Rattle.std.specs.List.{range_with_len}
 use Rattle.std.proofs.lemmas.List.{map-append}
 use Rattle.std.proofs.lemmas.Bool.{cases_Bool, cases_lt}
@@ -9,7 +9,7 @@ use Rattle.job.specs.Lists.{those}
 use Rattle.job.specs.Plans.{heads}
 use Rattle.link.specs.declared.heads.HeadSet.{HeadSet}
 use Rattle.link.specs.declared.message.Message.{Message}
-use Rattle.link.specs.HeadSets.{has_head, with_head, no_heads, heads_in}
+use Rattle.link.specs.HeadSets.{with_head, no_heads, heads_in}
 use Rattle.link.specs.Messages.{is_notice, message}
 use Rattle.link.specs.Posting.{room, loses, Sent, Sends}
 use Rattle.link.proofs.Posting.{loses_none, loses_comes, loses_dropped, sent_none, sent_then}

@@ -1,24 +1,22 @@
 -- A head that acts on its row acts on all that is lent. Assumes nothing.
-use Rattle.std.proofs.Common.{◌≡◌, ℕ, ◌+◌, ◌-◌, ◌*◌, ◌<◌, ◌≤◌, Bool, true, false, List, [], ◌∷◌, ◌++◌, length, get_or, take, drop, set, Ok, Err, Result, sym, refl, ap, ◌∙◌, subst, ap₂, append-nil, arith}
+use Rattle.std.proofs.Common.{◌≡◌, ℕ, ◌+◌, ◌-◌, ◌*◌, ◌≤◌, Bool, List, ◌++◌, length, get_or, take, drop, set, Result, sym, refl, ap, ◌∙◌, subst, ap₂, arith}
 use borrow.Rule.Slice.PartMut.{put_mid}
 use Rattle.std.proofs.lemmas.List.{set-get_or}
 use Rattle.scale.specs.Operations.{Operations}
 use Rattle.job.specs.declared.job.Job.{Job}
 use Rattle.job.specs.declared.refusal.Refusal.{Refusal}
-use Rattle.link.specs.declared.message.Kind.{Kind}
 use Rattle.link.specs.declared.message.Message.{Message}
 use Rattle.head.specs.declared.best.Best.{Best}
 use Rattle.head.specs.declared.record.Record.{Record}
 use Rattle.head.specs.declared.receive.Received.{Received}
-use Rattle.head.specs.declared.search.Turn.{Turn}
 use Rattle.head.specs.Bests.{at_first}
-use Rattle.head.specs.Views.{View, Turn as Turning, stays, becomes, Turns, Turned, view, spot}
+use Rattle.head.specs.Views.{Turn as Turning, stays, becomes, Turns, Turned, spot}
 use Rattle.head.specs.Replies.{reply}
 use Rattle.link.specs.Posting.{Sent}
 use Rattle.head.specs.Strays.{fits}
 use Rattle.head.specs.Readiness.{Goes}
 use Rattle.head.specs.Lent.{Lent, lent, blank, is_out, best_of}
-use Rattle.head.specs.Receiving.{is_due, its_record, replies, Responds, Heeds, Placed}
+use Rattle.head.specs.Receiving.{its_record, replies, Responds, Heeds, Placed}
 use Rattle.head.proofs.Rows.{put_same, put_set, read_part}
 
 -- writing a record back is the turn that the record makes

@@ -1,20 +1,15 @@
 -- What a head makes of a message, with its own row of records, and what that comes to in all that is lent. Assumes nothing.
-use Rattle.std.proofs.Common.{◌≡◌, ℕ, ◌+◌, ◌-◌, ◌*◌, ◌<◌, ◌≤◌, Bool, true, false, not, ◌&&◌, eqb, ltb, List, [], ◌∷◌, ◌++◌, length, get_or, take, drop, set, Ok, Err, Result, sym, refl, ap, ◌∙◌, subst, ap₂, inl, inr, append-nil, arith}
-use Rattle.std.proofs.lemmas.List.{get_or_default, set-get_or}
-use Rattle.std.proofs.lemmas.Bool.{and_parts, and_from, ltb-true, leb-true}
+use Rattle.std.proofs.Common.{◌≡◌, ℕ, ◌<◌, ◌≤◌, Bool, true, false, not, ◌&&◌, eqb, ltb, List, get_or, set, Ok, Err, sym, refl, ap, ◌∙◌, subst, ap₂, arith}
+use Rattle.std.proofs.lemmas.Bool.{and_parts, ltb-true, leb-true}
 use Rattle.scale.specs.Operations.{Operations}
 use Rattle.job.specs.declared.job.Job.{Job}
-use Rattle.job.specs.declared.refusal.Refusal.{Refusal}
 use Rattle.job.specs.declared.refusal.Refusal.TheVariants.{Stray}
-use Rattle.job.specs.Refusals.{number}
-use Rattle.job.specs.Plans.{setups, is_head, is_of_job}
+use Rattle.job.specs.Plans.{setups, is_head}
 use Rattle.problem.proofs.Naming.{setups_few}
 use Rattle.problem.proofs.Walks.{head_range}
-use Rattle.link.specs.declared.message.Kind.{Kind}
 use Rattle.link.specs.declared.message.Message.{Message}
 use Rattle.head.specs.declared.best.Best.{Best}
 use Rattle.head.specs.declared.record.Record.{Record}
-use Rattle.head.specs.declared.owed.OwedReport.{OwedReport}
 use Rattle.head.specs.declared.receive.Received.TheVariants.{Owes, Done}
 use Rattle.head.specs.declared.search.Turn.{Turn}
 use Rattle.head.specs.declared.respond.Deed.TheVariants.{Owes as StillOwes, Goes as GoesOn, Unsuited}

@@ -1,12 +1,12 @@
 -- What a head does with each kind of message is what the reply says. Assumes nothing.
-use Rattle.std.proofs.Common.{◌≡◌, ℕ, zero, suc, ◌+◌, ◌<◌, ◌≤◌, min, Bool, true, false, cond, not, ◌&&◌, ◌||◌, ltb, ◌≢◌, List, [], ◌∷◌, ◌++◌, length, get_or, set, replicate, sym, refl, ap, ◌∙◌, subst, ap₂, inl, inr, arith}
-use Rattle.std.proofs.lemmas.List.{get_or-set_same, get_or-set_other, get_or-replicate, get_or_past}
+use Rattle.std.proofs.Common.{◌≡◌, ℕ, zero, suc, ◌<◌, min, Bool, true, false, cond, not, ◌&&◌, ◌||◌, ltb, ◌≢◌, List, [], ◌∷◌, ◌++◌, get_or, sym, refl, ap, ◌∙◌, subst, ap₂, inl, inr, arith}
+use Rattle.std.proofs.lemmas.List.{get_or-set_other, get_or-replicate}
 use Rattle.std.proofs.lemmas.Bool.{cases_Bool, cases_eq, cases_lt, and_parts, or_cases, cond-true, cond-false, lt-ltb, ltb-true, not-true, both_ways}
 use Rattle.scale.specs.Operations.{Operations}
 use Rattle.job.specs.declared.job.Job.{Job}
 use Rattle.job.specs.declared.plan.Plan.{Plan}
 use Rattle.job.specs.Lists.{every}
-use Rattle.job.specs.Plans.{setups, is_head, is_setup, named, name, unnamed_heads, is_of_job}
+use Rattle.job.specs.Plans.{setups, is_setup, named, unnamed_heads, is_of_job}
 use Rattle.problem.proofs.Naming.{setups_few}
 use Rattle.link.specs.declared.heads.HeadSet.{HeadSet}
 use Rattle.link.specs.declared.message.Kind.{Kind}
@@ -25,10 +25,10 @@ use Rattle.head.specs.declared.search.Turn.{Turn}
 use Rattle.head.specs.declared.respond.Deed.TheVariants.{Goes as GoesOn, Unsuited}
 use Rattle.head.specs.SetupSets.{no_setups, has_setup, first_setups}
 use Rattle.head.specs.Bests.{hopeless, adopted}
-use Rattle.head.specs.Views.{View, shows, view, Turns}
-use Rattle.head.specs.Searching.{Searched, search_on}
-use Rattle.head.specs.Replies.{Reply, on_trial, task, choice, carried, quietly, searched, goes_on, heard_from, is_last, at_least, gathers_on, hands_on, on_report, on_plan, on_return, reply, asks_picker}
-use Rattle.head.specs.Strays.{untried_fit, heard_fit, sender_fits, is_in_range, expects}
+use Rattle.head.specs.Views.{shows, Turns}
+use Rattle.head.specs.Searching.{search_on}
+use Rattle.head.specs.Replies.{Reply, on_trial, task, choice, carried, quietly, goes_on, heard_from, is_last, at_least, gathers_on, hands_on, on_plan, on_return, reply, asks_picker}
+use Rattle.head.specs.Strays.{untried_fit, expects}
 use Rattle.head.specs.Readiness.{Ready, Searches, Actable, Goes, quiet_turn, Chooses, unsuited, going}
 use Rattle.head.proofs.Ranges.{every_at, lawful_present}
 

@@ -1,10 +1,10 @@
 -- A message taken out of the link, and what its head then makes of it, come to what receiving promises. Assumes nothing.
-use Rattle.std.proofs.Common.{◌≡◌, ℕ, ◌<◌, ◌≤◌, Bool, true, false, ◌&&◌, leb, ◌⊎◌, List, [], ◌∷◌, ◌++◌, length, Ok, Err, Result, sym, refl, ap, ◌∙◌, subst, ap₂, inl, inr, append-nil, arith}
-use Rattle.std.proofs.lemmas.Bool.{cases_Bool, and_parts, leb-true, leb-false, both_ways}
+use Rattle.std.proofs.Common.{◌≡◌, ℕ, Bool, true, false, ◌&&◌, leb, List, [], ◌∷◌, ◌++◌, length, Ok, Err, Result, sym, refl, ap, ◌∙◌, subst, ap₂, inl, inr, append-nil}
+use Rattle.std.proofs.lemmas.Bool.{cases_Bool, and_parts, leb-true, leb-false}
 use Rattle.scale.specs.Operations.{Operations}
 use Rattle.job.specs.declared.job.Job.{Job}
 use Rattle.job.specs.declared.refusal.Refusal.{Refusal}
-use Rattle.job.specs.declared.refusal.Refusal.TheVariants.{TooLittle, Stray}
+use Rattle.job.specs.declared.refusal.Refusal.TheVariants.{Stray}
 use Rattle.link.specs.declared.message.Message.{Message}
 use Rattle.problem.specs.Bags.{Same}
 use Rattle.link.specs.Links.{Taken}
@@ -14,7 +14,7 @@ use Rattle.head.specs.declared.record.Record.{Record}
 use Rattle.head.specs.declared.receive.Received.{Received}
 use Rattle.head.specs.Strays.{is_addressed, is_sound, due, expects}
 use Rattle.head.specs.Lent.{Lent, lent, Enough, Lacks, are_enough, is_out}
-use Rattle.head.specs.Receiving.{its_record, replies, Acts, OnlyTaken, Heeds, Receives, Placed}
+use Rattle.head.specs.Receiving.{its_record, replies, Heeds, Receives, Placed}
 use Rattle.head.proofs.Receipts.{to_range, search_small}
 
 module _ {S : Type 0} (j : Job) (costs : List S) (records : List (Record S)) (bests : List (Best S)) (limit : ℕ) (bag : List (Message S)) where

@@ -1,5 +1,5 @@
 -- Searching on, one setup at a time: what was tried so far and what is left come to the whole. Assumes nothing.
-use Rattle.std.proofs.Common.{◌≡◌, ℕ, zero, suc, ◌+◌, ◌<◌, ◌≤◌, Bool, true, false, cond, eqb, ltb, ◌≢◌, ◌⊎◌, List, [], ◌∷◌, ◌++◌, map, length, get_or, set, Some, None, Option, sym, refl, ap, ◌∙◌, subst, ap₂, inl, inr, append_assoc, append-nil, arith}
+use Rattle.std.proofs.Common.{◌≡◌, ℕ, zero, suc, ◌+◌, ◌<◌, Bool, true, false, cond, ltb, ◌≢◌, List, [], ◌∷◌, ◌++◌, map, length, get_or, set, Some, None, sym, refl, ap, ◌∙◌, subst, ap₂, inl, inr, append_assoc, append-nil, arith}
 use Rattle.std.specs.List.{range_with_len}
 use Rattle.std.proofs.lemmas.List.{get_or-set_other, get_or-set_same, get_or_past, length-set}
 use Rattle.std.proofs.lemmas.Bool.{cases_Bool, cases_eq, cases_lt, cond-true, cond-false, both_ways}
@@ -23,7 +23,7 @@ use Rattle.head.specs.declared.record.Record.{Record}
 use Rattle.head.specs.declared.search.Turn.{Turn}
 use Rattle.head.specs.SetupSets.{has_setup, without_setup, members, head_of, lowest_setup}
 use Rattle.head.specs.Bests.{hopeless}
-use Rattle.head.specs.Views.{View, rests, view}
+use Rattle.head.specs.Views.{rests, view}
 use Rattle.head.specs.Searching.{others, Searched, Task, trial_plan, trial_cost, found, notices_of, asks, comes_back, after, trying, search_on}
 use Rattle.head.specs.Replies.{task}
 use Rattle.head.specs.Readiness.{with_trial, Gathers, ComesBack, Searches}

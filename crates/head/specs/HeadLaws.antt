@@ -1,5 +1,5 @@
 -- Laws of what a head does, above the definitions: whatever the message, and whichever head is picked. Assumes nothing.
-use Rattle.std.specs.Prelude.{◌≡◌, ℕ, ◌≤◌, Bool, true, false, ◌⊎◌, List, [], ◌∷◌, length, ◌≢◌}
+use Rattle.std.specs.Prelude.{◌≡◌, ℕ, ◌≤◌, Bool, true, ◌⊎◌, List, [], ◌∷◌, length, ◌≢◌}
 use Rattle.scale.specs.Operations.{Operations, AtMost}
 use Rattle.job.specs.declared.job.Job.{Job}
 use Rattle.job.specs.declared.plan.Plan.{Plan}

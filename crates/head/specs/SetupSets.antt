@@ -1,5 +1,5 @@
 -- Sets of setups. A setup is a number from 0 to 7; every other number is in no set. Assumes nothing.
-use Rattle.std.specs.Prelude.{ℕ, zero, suc, ◌+◌, Bool, true, false, cond, List, [], ◌∷◌, replicate, Some, None, Option, nat_lt, slice_index_or, slice_set}
+use Rattle.std.specs.Prelude.{ℕ, zero, suc, Bool, true, false, cond, List, [], ◌∷◌, replicate, Some, None, Option, nat_lt, slice_index_or, slice_set}
 use Rattle.std.specs.List.{range_with_len}
 use Rattle.job.specs.Lists.{those}
 use Rattle.head.specs.declared.setups.SetupSet.{SetupSet}

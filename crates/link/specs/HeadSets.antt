@@ -1,5 +1,5 @@
 -- Sets of heads, and what a picker may answer. A head is a number from 1 to 8; every other number is in no set. Assumes nothing.
-use Rattle.std.specs.Prelude.{◌≡◌, ℕ, zero, suc, ◌<◌, Bool, true, false, cond, List, [], ◌∷◌, set, replicate, nat_lt, slice_index_or, slice_set}
+use Rattle.std.specs.Prelude.{◌≡◌, ℕ, zero, suc, ◌<◌, Bool, true, false, cond, List, [], ◌∷◌, replicate, nat_lt, slice_index_or, slice_set}
 use Rattle.link.specs.declared.heads.HeadSet.{HeadSet}
 
 abbrev pub no_heads : HeadSet

@@ -8,7 +8,7 @@ use Rattle.std.proofs.lemmas.List.{length-append, get_or_append_left, get_or-rep
 use Rattle.std.proofs.lemmas.Bool.{cases_Bool, cases_eq, cases_lt, cond-true, cond-false, eq-eqb, ne_eqb}
 use Rattle.scale.specs.Operations.{Operations}
 use Rattle.job.specs.declared.job.Job.{Job}
-use Rattle.job.specs.Plans.{setups, heads, named, empty}
+use Rattle.job.specs.Plans.{setups, named, empty}
 use Rattle.problem.specs.Costs.{joined_pairs}
 use Rattle.problem.proofs.Naming.{setups_few}
 use Rattle.problem.proofs.Weights.{setups_some}
@@ -20,7 +20,7 @@ use Rattle.head.specs.declared.best.Best.{Best}
 use Rattle.head.specs.declared.record.Record.{Record}
 use Rattle.head.specs.SetupSets.{only_setup, members}
 use Rattle.head.specs.Bests.{at_first}
-use Rattle.head.specs.Views.{View, rests, view, spot}
+use Rattle.head.specs.Views.{View, rests, spot}
 use Rattle.head.specs.Searching.{others, Searched, trying, search_on}
 use Rattle.head.specs.Lent.{Lent, Enough}
 use Rattle.searches.specs.Cubes.{Problem, Lawful}

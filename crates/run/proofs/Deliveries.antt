@@ -7,7 +7,6 @@ use Rattle.std.proofs.ByRecursion.{All-append, All-map}
 use Rattle.std.proofs.lemmas.List.{length-set}
 use Rattle.std.proofs.lemmas.Bool.{cases_Bool, cases_eq, cond-false, and_from, ne_eqb, lt-ltb, le-leb, not_from_false}
 use Rattle.job.specs.declared.job.Job.{Job}
-use Rattle.job.specs.Refusals.{number}
 use Rattle.job.specs.Plans.{setups, heads}
 use Rattle.problem.specs.Bags.{Out, Same}
 use Rattle.problem.proofs.Naming.{setups_few}

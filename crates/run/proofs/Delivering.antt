@@ -1,7 +1,7 @@
 -- What deliver does, from what receiving a message, posting the owed report and coming home do. Assumes nothing.
-use Rattle.std.proofs.Common.{◌≡◌, ℕ, ◌-◌, ◌<◌, ◌≤◌, Bool, true, false, cond, not, ◌&&◌, ◌||◌, eqb, ltb, List, [], ◌∷◌, ◌++◌, length, get_or, set, is_err, Ok, Err, Result, sym, refl, ap, ◌∙◌, subst, ap₂, inl, inr, append_assoc, append-nil, arith, length-set}
-use Rattle.std.proofs.lemmas.List.{set-get_or, get_or-set_same, get_or_default}
-use Rattle.std.proofs.lemmas.Bool.{cases_Bool, and_parts, cond-true, cond-false, le-ltb, eqb-true, eq-eqb, both_ways}
+use Rattle.std.proofs.Common.{◌≡◌, ℕ, ◌-◌, ◌<◌, Bool, true, false, cond, not, ◌&&◌, ◌||◌, eqb, ltb, List, [], ◌∷◌, ◌++◌, length, get_or, set, is_err, Ok, Err, Result, sym, refl, ap, ◌∙◌, subst, ap₂, append_assoc, append-nil, arith, length-set}
+use Rattle.std.proofs.lemmas.List.{set-get_or, get_or-set_same}
+use Rattle.std.proofs.lemmas.Bool.{and_parts, cond-true, cond-false, le-ltb, eqb-true, eq-eqb, both_ways}
 use Rattle.scale.specs.Operations.{Operations}
 use Rattle.job.specs.declared.job.Job.{Job}
 use Rattle.job.specs.declared.refusal.Refusal.{Refusal}
@@ -12,7 +12,7 @@ use Rattle.problem.specs.Costs.{bound, priced, may_ask_head}
 use Rattle.link.specs.declared.message.Kind.{Kind}
 use Rattle.link.specs.declared.message.Kind.TheVariants.{Request}
 use Rattle.link.specs.declared.message.Message.{Message}
-use Rattle.link.specs.Posting.{Sent, Sends}
+use Rattle.link.specs.Posting.{Sent}
 use Rattle.link.proofs.Posting.{sent_then}
 use Rattle.head.specs.declared.best.Best.{Best}
 use Rattle.head.specs.declared.record.Record.{Record}
@@ -22,15 +22,15 @@ use Rattle.head.specs.declared.receive.Received.TheVariants.{Owes, Done}
 use Rattle.head.specs.Bests.{at_first}
 use Rattle.head.specs.Views.{spot, Turn, Turned}
 use Rattle.head.specs.Replies.{Reply, reply, report, on_request, asks_picker}
-use Rattle.head.specs.Strays.{is_addressed, is_sound, due, expects, fits}
-use Rattle.head.specs.Owing.{report_with, ReportsWith, Reports}
+use Rattle.head.specs.Strays.{is_addressed, is_sound, due, expects}
+use Rattle.head.specs.Owing.{ReportsWith, Reports}
 use Rattle.head.specs.Lent.{Lent, lent, Enough, is_out, best_of}
 use Rattle.head.specs.Receiving.{its_record, is_due, replies, needs_pick, Acts, OnlyTaken, owed_for, Receives}
 use Rattle.head.proofs.EachHead.{sent_one}
 use Rattle.head.proofs.Receipts.{search_small}
 use Rattle.run.specs.declared.run.Run.{Run}
 use Rattle.run.specs.Worlds.{World, at, come_home, stops}
-use Rattle.run.specs.Delivering.{counted, out_after, farewell, Delivered, Strays, Delivers, ComesHome}
+use Rattle.run.specs.Delivering.{counted, out_after, farewell, Delivered, Delivers, ComesHome}
 use Rattle.run.proofs.Homes.{home_at_one}
 
 module _ {S : Type 0} (s : Operations S) where

@@ -1,6 +1,6 @@
 -- What an end tells is right: the best of head 1, if nothing waits, is a cheapest plan with its cost, or none where every plan costs never.
 -- Serves the theorem. Assumes nothing.
-use Rattle.std.proofs.Common.{◌≡◌, ℕ, Bool, true, false, ◌↔◌, [], sym, ap, ◌∙◌, subst, inl, inr, arith}
+use Rattle.std.proofs.Common.{◌≡◌, ℕ, Bool, true, false, ◌↔◌, sym, ap, ◌∙◌, subst, inl, inr, arith}
 use Rattle.std.proofs.lemmas.Bool.{both_ways}
 use Rattle.job.specs.declared.job.Job.{Job}
 use Rattle.job.specs.Plans.{heads, named, empty, is_complete}

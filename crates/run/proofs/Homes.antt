@@ -1,5 +1,5 @@
 -- Only at head 1 does a search come home. Assumes nothing.
-use Rattle.std.proofs.Common.{◌≡◌, ℕ, Bool, true, false, cond, List, [], ◌∷◌, sym, refl, ap, ◌∙◌, inl, inr}
+use Rattle.std.proofs.Common.{◌≡◌, ℕ, true, List, [], ◌∷◌, sym, ap, ◌∙◌, inl, inr}
 use mathlib.Core.Bool.{false≢true}
 use Rattle.std.proofs.lemmas.Bool.{cases_Bool, cond-true, cond-false, eqb-true}
 use Rattle.scale.specs.Operations.{Operations}
@@ -12,7 +12,7 @@ use Rattle.head.specs.declared.best.Best.{Best}
 use Rattle.head.specs.declared.record.Record.{Record}
 use Rattle.head.specs.declared.setups.SetupSet.{SetupSet}
 use Rattle.head.specs.Bests.{hopeless}
-use Rattle.head.specs.Searching.{Searched, Task, trial_plan, trial_cost, trying, search_on}
+use Rattle.head.specs.Searching.{Searched, Task, trial_plan, trial_cost, trying}
 use Rattle.head.specs.Replies.{Reply, is_last, at_least, reply}
 
 module _ {S : Type 0} (s : Operations S) (j : Job) (costs : List S) where

@@ -1,5 +1,5 @@
 -- From what a call does to all that it promises, by the theorem. Assumes what the theorem assumes.
-use Rattle.std.proofs.Common.{◌≡◌, ℕ, ◌+◌, Ok, Err, Result, refl, ◌∙◌, subst}
+use Rattle.std.proofs.Common.{ℕ, ◌+◌, Ok, Err, Result, ◌∙◌, subst}
 use Rattle.job.specs.declared.refusal.Refusal.{Refusal}
 use Rattle.link.specs.declared.message.Kind.{Kind}
 use Rattle.run.specs.declared.run.Run.{Run}

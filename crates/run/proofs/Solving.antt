@@ -1,5 +1,5 @@
 -- Why solve's loop ends, and what it ends with. Assumes what the theorem assumes.
-use Rattle.std.proofs.Common.{◌≡◌, ℕ, ◌-◌, ◌<◌, ◌≤◌, Bool, true, false, List, [], ◌∷◌, length, drop, replicate, Ok, Err, Result, sym, refl, ap, ◌∙◌, subst, arith, length-append, length-set}
+use Rattle.std.proofs.Common.{◌≡◌, ℕ, ◌-◌, ◌<◌, ◌≤◌, Bool, List, [], ◌∷◌, length, drop, replicate, Ok, Err, Result, sym, refl, ap, ◌∙◌, subst, arith, length-append, length-set}
 use mathlib.Core.Bool.{false≢true}
 use Rattle.job.specs.declared.refusal.Refusal.{Refusal}
 use Rattle.job.specs.declared.job.Job.{Job}
@@ -10,7 +10,7 @@ use Rattle.run.specs.declared.run.Run.{Run}
 use Rattle.run.specs.declared.run.Ended.{Ended}
 use Rattle.run.specs.declared.run.Refused.{Refused}
 use Rattle.scale.specs.Operations.{Operations, Laws}
-use Rattle.head.specs.Views.{Turn, stays, becomes, Turned}
+use Rattle.head.specs.Views.{Turn, becomes, Turned}
 use Rattle.head.specs.Lent.{Lent, Enough}
 use Rattle.head.specs.Receiving.{Acts}
 use Rattle.run.specs.Worlds.{World}

@@ -4,14 +4,14 @@ use Rattle.std.proofs.lemmas.List.{get_or_append_left, get_or-append_right, get_
 use Rattle.std.proofs.lemmas.Bool.{cases_lt}
 use Rattle.scale.specs.Operations.{Operations}
 use Rattle.link.specs.declared.message.Message.{Message}
-use Rattle.link.specs.Posting.{margin, Sent}
+use Rattle.link.specs.Posting.{margin}
 use Rattle.head.specs.declared.best.Best.{Best}
 use Rattle.head.specs.declared.record.Record.{Record}
 use Rattle.head.specs.Bests.{at_first}
 use Rattle.head.specs.Views.{rests, view}
 use Rattle.head.specs.Lent.{Lent, Enough, lent, blank}
 use Rattle.head.proofs.EachHead.{sent_unlost}
-use Rattle.run.specs.Starting.{Begun, begun, Begins}
+use Rattle.run.specs.Starting.{begun, Begins}
 use Rattle.run.specs.Beginning.{ReadyToBegin, HasBegun}
 use Rattle.run.proofs.Filling.{filled}
 use Rattle.run.proofs.Beginning.{views_few}

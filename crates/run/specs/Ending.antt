@@ -9,7 +9,7 @@ use Rattle.run.specs.declared.run.Outcome.TheVariants.{Found, NoPlan}
 use Rattle.run.specs.declared.run.Ended.{Ended}
 use Rattle.run.specs.declared.run.Refused.{Refused}
 use Rattle.job.specs.Refusals.{number}
-use Rattle.job.specs.Plans.{setups, is_complete}
+use Rattle.job.specs.Plans.{is_complete}
 use Rattle.head.specs.Lent.{Enough, Lacks, best_of}
 use Rattle.run.specs.Worlds.{World}
 use Rattle.scale.specs.Operations.{Operations}

@@ -13,7 +13,7 @@ use Rattle.job.specs.declared.plan.Plan.{Plan}
 use Rattle.job.specs.Lists.{those, every}
 use Rattle.job.specs.Plans.{heads, setups, setup, named, name, empty, plans, product, unnamed_heads, is_complete, Complete, Extends}
 use Rattle.job.proofs.Readings.{setup_within}
-use Rattle.problem.specs.Bags.{Out, one}
+use Rattle.problem.specs.Bags.{Out}
 use Rattle.problem.specs.Costs.{joined, against}
 use Rattle.problem.specs.Weights.{weight, children}
 use Rattle.problem.proofs.Joins.{at_most_join}

@@ -4,7 +4,7 @@ use Rattle.std.proofs.Common.{◌≡◌, ℕ, zero, suc, ◌+◌, ◌<◌, ◌�
 use Rattle.std.specs.List.{AllByRecursion as All}
 use Rattle.std.proofs.lemmas.Bool.{cases_Bool}
 use Rattle.scale.specs.Operations.{Operations, Laws}
-use Rattle.job.specs.Plans.{heads, name, unnamed_heads}
+use Rattle.job.specs.Plans.{name, unnamed_heads}
 use Rattle.problem.specs.Bags.{here, Same, one}
 use Rattle.problem.proofs.Naming.{out_counting}
 use Rattle.link.specs.declared.message.Message.{Message}

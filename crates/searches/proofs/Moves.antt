@@ -6,7 +6,7 @@ use Rattle.std.proofs.lemmas.List.Elements.{filter-append}
 use Rattle.std.proofs.ByRecursion.{All-append, All-map, All-weaker}
 use Rattle.std.proofs.lemmas.Bool.{cases_Bool, cases_eq, both_ways, cond-false}
 use Rattle.job.specs.Plans.{heads}
-use Rattle.problem.specs.Bags.{Out, here, Same, one}
+use Rattle.problem.specs.Bags.{Out, here, Same}
 use Rattle.problem.proofs.Bags.{out_length}
 use Rattle.link.specs.declared.message.Kind.TheVariants.{Notice, Stop}
 use Rattle.link.specs.declared.message.Message.{Message}

@@ -1,6 +1,6 @@
 -- What a line says: its first two digits are a byte that tells the kind of the frame, then come fields of one byte each, and in a
 -- table the digits of the entries. Assumes nothing.
-use Rattle.std.specs.Prelude.{ℕ, ◌-◌, Bool, cond, List, [], ◌∷◌, length, drop, Some, None, Option, ◌==◌, nat_le, slice_index}
+use Rattle.std.specs.Prelude.{ℕ, Bool, cond, List, [], ◌∷◌, length, drop, Some, None, Option, ◌==◌, nat_le, slice_index}
 use Rattle.std.specs.Str.{bytes_eq}
 use Rattle.sheet.specs.Hex.{byte}
 use Rattle.sheet.specs.Lines.{front}

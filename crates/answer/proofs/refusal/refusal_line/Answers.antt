@@ -1,5 +1,3 @@
-use Rattle.std.proofs.Common.{◌≡◌, ℕ, List, [], ◌∷◌, get_or, sym, ap, ◌∙◌, subst, ap₂}
-use Rattle.answer.specs.Hex.{hex}
 use Rattle.answer.proofs.Cursors.{written_then, written_front}
 use Rattle.answer.proofs.refusal.refusal_line.Goals as goal
 

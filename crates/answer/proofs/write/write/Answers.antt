@@ -1,4 +1,4 @@
-use Rattle.std.proofs.Common.{◌≡◌, refl, arith}
+use Rattle.std.proofs.Common.{arith}
 use Rattle.answer.proofs.Telling.{outcome_few, answer_written}
 use Rattle.answer.proofs.write.write.Goals as goal
 

@@ -1,4 +1,4 @@
-use Rattle.std.proofs.Common.{◌≡◌, ◌<◌, length, sym, ◌∙◌, arith, rules}
+use Rattle.std.proofs.Common.{◌<◌, length, sym, ◌∙◌, arith, rules}
 use Rattle.std.proofs.lemmas.List.{get_or_default}
 use Rattle.head.specs.Lent.{blank}
 use Rattle.head.proofs.Receipts.{search_small, stray_unsound, stray_undue, responds_unsuited, responds_owing, responds_going}

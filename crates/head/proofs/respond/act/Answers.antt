@@ -1,5 +1,5 @@
-use Rattle.std.proofs.Common.{◌≡◌, ℕ, sym, refl, ap, ◌∙◌, arith}
-use Rattle.link.specs.declared.message.Kind.TheVariants.{Request, Report, Plan as PlanMessage, Return, Notice, Stop}
+use Rattle.std.proofs.Common.{◌≡◌, ℕ, refl, ap, ◌∙◌, arith}
+use Rattle.link.specs.declared.message.Kind.TheVariants.{Report, Plan as PlanMessage, Return, Notice, Stop}
 use Rattle.head.specs.declared.best.Best.{Best}
 use Rattle.head.specs.declared.record.State.{State}
 use Rattle.head.specs.declared.record.State.TheVariants.{Resting, Gathering, Below}

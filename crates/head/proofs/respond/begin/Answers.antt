@@ -1,6 +1,6 @@
 use Rattle.std.proofs.Common.{ℕ, min, sym, ap, ◌∙◌, subst}
 use Rattle.head.specs.declared.setups.SetupSet.{SetupSet}
-use Rattle.head.specs.SetupSets.{first_setups, has_setup}
+use Rattle.head.specs.SetupSets.{first_setups}
 use Rattle.head.specs.Readiness.{Ready}
 use Rattle.head.proofs.Replying.{first_own, begins_so}
 use Rattle.head.proofs.respond.begin.Goals as goal

@@ -1,8 +1,7 @@
-use Rattle.std.proofs.Common.{Bool, [], ◌∷◌, sym, refl, subst}
+use Rattle.std.proofs.Common.{sym, refl}
 use Rattle.std.proofs.lemmas.Bool.{eq-eqb, ne_eqb}
 use Rattle.link.specs.declared.message.Kind.TheVariants.{Return}
 use Rattle.link.specs.Messages.{message}
-use Rattle.link.specs.Posting.{Sent}
 use Rattle.link.proofs.Posting.{sent_none}
 use Rattle.head.proofs.EachHead.{sent_one}
 use Rattle.head.proofs.search.come_back.Goals as goal

@@ -1,4 +1,4 @@
-use Rattle.std.proofs.Common.{◌≡◌, true, sym, ap, ◌∙◌, arith}
+use Rattle.std.proofs.Common.{sym, ap, ◌∙◌}
 use Rattle.head.proofs.Trying.{lowest_has, left_fewer, tried_first, tried_gives_up, tried_found, tried_asks, tried_all}
 use Rattle.head.proofs.search.search_on.Goals as goal
 

@@ -1,4 +1,3 @@
-use Rattle.std.proofs.Common.{◌≤◌}
 use Rattle.link.specs.HeadSets.{has_head}
 use Rattle.head.proofs.EachHead.{SentBelow}
 use Rattle.head.proofs.sending.send_each.Given as goal

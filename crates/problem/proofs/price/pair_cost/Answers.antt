@@ -1,5 +1,4 @@
 use Rattle.std.proofs.Common.{sym, arith}
-use Rattle.job.specs.Plans.{setups}
 use Rattle.problem.proofs.Naming.{setups_few}
 use Rattle.problem.proofs.Walks.{some_named, named_of_job, head_range}
 use Rattle.problem.proofs.price.pair_cost.Goals as goal

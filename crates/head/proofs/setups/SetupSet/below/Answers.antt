@@ -1,4 +1,4 @@
-use Rattle.std.proofs.Common.{◌≡◌, ℕ, min, Bool, true, List, set, refl, ap, ◌∙◌, arith}
+use Rattle.std.proofs.Common.{◌≡◌, min, Bool, true, List, set, refl, ap, ◌∙◌, arith}
 use Rattle.head.specs.declared.setups.SetupSet.{SetupSet}
 use Rattle.head.specs.SetupSets.{first_setups}
 use Rattle.head.proofs.SetupSets.{first_more}

@@ -1,4 +1,4 @@
-use Rattle.std.proofs.Common.{arith, rules}
+use Rattle.std.proofs.Common.{arith}
 use Rattle.head.proofs.SetupSets.{lowest_here, lowest_later, lowest_nowhere}
 use Rattle.head.proofs.setups.SetupSet.lowest.Goals as goal
 

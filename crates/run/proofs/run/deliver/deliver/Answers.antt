@@ -1,4 +1,4 @@
-use Rattle.std.proofs.Common.{◌≡◌, ℕ, ◌<◌, Bool, true, false, cond, ◌||◌, List, length, get_or, is_err, Ok, Err, sym, refl, ap, ◌∙◌, subst, arith, rules}
+use Rattle.std.proofs.Common.{◌≡◌, ℕ, ◌<◌, Bool, cond, ◌||◌, length, get_or, is_err, Ok, Err, sym, refl, ap, ◌∙◌, arith, rules}
 use Rattle.job.specs.declared.refusal.Refusal.TheVariants.{LinkFull}
 use Rattle.link.specs.declared.message.Kind.TheVariants.{Request}
 use Rattle.head.specs.Lent.{lent}
@@ -6,7 +6,7 @@ use Rattle.run.specs.declared.run.Run.{Run}
 use Rattle.run.specs.Worlds.{at}
 use Rattle.run.specs.Delivering.{counted, Delivered}
 use Rattle.run.proofs.Promises.{deliver_promise}
-use Rattle.run.proofs.Delivering.{acts_search, has_owed, has_acted, refused_stray, refused_still, told_so, request_delivered, bests_stay, came_home, stayed_out}
+use Rattle.run.proofs.Delivering.{acts_search, has_owed, has_acted, refused_stray, refused_still, told_so, request_delivered, came_home, stayed_out}
 use Rattle.run.proofs.run.deliver.deliver.Goals as goal
 use Rattle.run.proofs.run.deliver.deliver.Goals.{then-home, else-home}
 

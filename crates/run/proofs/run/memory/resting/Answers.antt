@@ -1,4 +1,4 @@
-use Rattle.std.proofs.Common.{◌≡◌, ◌∙◌}
+use Rattle.std.proofs.Common.{◌≡◌}
 use Rattle.head.specs.SetupSets.{first_setups, no_setups}
 use Rattle.run.proofs.run.memory.resting.Goals as goal
 

@@ -1,4 +1,4 @@
-use Rattle.std.proofs.Common.{◌≡◌, ap, ◌∙◌, arith}
+use Rattle.std.proofs.Common.{ap, ◌∙◌, arith}
 use Rattle.run.specs.Ending.{unpacked}
 use Rattle.run.proofs.Packing.{unpack}
 use Rattle.run.proofs.run.packing.bytes_joined.Goals as goal
