@@ -44,7 +44,7 @@ pub mod look;
 pub mod memory;
 pub mod packing;
 pub mod reading;
-pub mod searches;
+pub mod searches_out;
 pub mod solve;
 pub mod start;
 pub mod stopping;

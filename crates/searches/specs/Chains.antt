@@ -3,7 +3,7 @@
 -- has still to look into, the messages that it may still cost, who holds its bests. Serves the steps of a search and the invariant.
 -- Assumes nothing.
 use Rattle.std.specs.Prelude.{◌≡◌, ℕ, ◌+◌, ◌*◌, ◌<◌, ◌≤◌, ◌⊎◌, List, [], ◌∷◌, ◌++◌, map, length}
-use Rattle.std.specs.List.{AllByRecursion as All}
+use Rattle.std.specs.List.{AllByRecursion}
 use Rattle.job.specs.declared.job.Job.{Job}
 use Rattle.job.specs.declared.plan.Plan.{Plan}
 use Rattle.job.specs.Plans.{setups, name, unnamed_heads}
@@ -85,7 +85,7 @@ module _ (r : Root) where
     pub record Linked (t : Trial) (up : List Trial) : Type 0 where
       pub is_open : Open j (plan_of up) t.head
       pub lawful : t.setup < setups j t.head
-      pub tries : All (λ i. i < setups j t.head) t.untried
+      pub tries : AllByRecursion (λ i. i < setups j t.head) t.untried
       pub hangs : Hangs t.head up
 
     abbrev pub Chain : List Trial → Type 0
@@ -96,7 +96,7 @@ module _ (r : Root) where
 module _ {S : Type 0} (π : Problem S) (r : Root) where
   pub record Acts (h : ℕ) (is : List ℕ) (up : List Trial) : Type 0 where
     pub is_open : Open π.job (plan_of r up) h
-    pub tries : All (λ i. i < setups π.job h) is
+    pub tries : AllByRecursion (λ i. i < setups π.job h) is
     pub hangs : Hangs r π.job h up
     pub chain : Chain r π.job up
 

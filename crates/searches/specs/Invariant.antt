@@ -1,7 +1,7 @@
 -- What holds at every moment of a run: the searches and the bag that they share, who holds which best, which complete plans have still to
 -- be looked at, and how many messages may still come. Serves the promises, which follow from it. Assumes nothing.
 use Rattle.std.specs.Prelude.{◌≡◌, ℕ, ◌+◌, ◌-◌, ◌*◌, ◌<◌, ◌≤◌, true, false, ◌≢◌, ◌⊎◌, List, [], ◌++◌, length}
-use Rattle.std.specs.List.{flat_map, AllByRecursion as All}
+use Rattle.std.specs.List.{flat_map, AllByRecursion}
 use Rattle.job.specs.declared.job.Job.{Job}
 use Rattle.job.specs.declared.plan.Plan.{Plan as Plans}
 use Rattle.job.specs.Plans.{setups, plans, Complete, Extends}
@@ -70,7 +70,7 @@ module _ {S : Type 0} (π : Problem S) where
   pub data Ending (st : State S) (notices stops : List (Message S)) : Type 0 where
     under_way : all_home st.searches ≡ false → stops ≡ [] →
         st.count + (total owes st.searches + (length notices + (π.job.heads - 1))) ≤ most_messages π.job → Ending st notices stops
-    over : all_home st.searches ≡ true → All (Stopping (st.bests 1)) stops →
+    over : all_home st.searches ≡ true → AllByRecursion (Stopping (st.bests 1)) stops →
         ((g : ℕ) → Head π.job g → (st.bests g ≡ st.bests 1) ⊎ Some (λ m. m.to ≡ g) stops) →
         st.count + (length notices + length stops) ≤ most_messages π.job → Ending st notices stops
 
@@ -80,14 +80,14 @@ module _ {S : Type 0} (π : Problem S) where
     pub stops : List (Message S)
     -- what waits is what the searches have on the way, the notices and the stops
     pub bag_is : Same (messages st.searches ++ (notices ++ stops)) st.bag
-    pub rooted : All Rooted st.searches
-    pub sound : All (λ s. Sound π s.root s.focus) st.searches
+    pub rooted : AllByRecursion Rooted st.searches
+    pub sound : AllByRecursion (λ s. Sound π s.root s.focus) st.searches
     pub searches_few : length st.searches ≤ 8
     pub notices_few : length notices ≤ limit - margin
     -- every best is no plan or one that was found, and it is held; so is that of every notice
     pub good : (g : ℕ) → Head π.job g → Good π (st.bests g)
     pub held : (g : ℕ) → Head π.job g → Held st.bests st.searches (st.bests g)
-    pub noticed : All (Noticed (Held st.bests st.searches)) notices
+    pub noticed : AllByRecursion (Noticed (Held st.bests st.searches)) notices
     -- no complete plan is forgotten: it is no better than one that is held, or it has still to be looked at
     pub covered : (p : Plans) → Complete π.job p → Held st.bests st.searches (priced_plan π p) ⊎ Reached st.searches p
     pub ending : Ending st notices stops

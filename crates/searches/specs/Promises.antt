@@ -1,7 +1,7 @@
 -- What is promised of every run of searches that share a bag, in words of the subject, and the theorems that say so. Serves the theorem
 -- functions of this crate, and the layer that shows records and code to move as searches do. Assumes nothing.
 use Rattle.std.specs.Prelude.{◌≡◌, ℕ, ◌<◌, ◌≤◌, Bool, true, false, ◌≢◌, ◌⊎◌, ◌↔◌, List, [], ◌∷◌, ◌++◌, length}
-use Rattle.std.specs.List.{range_with_len, AllByRecursion as All}
+use Rattle.std.specs.List.{range_with_len, AllByRecursion}
 use Rattle.scale.specs.Operations.{Operations, AtMost}
 use Rattle.job.specs.declared.job.Job.{Job}
 use Rattle.job.specs.declared.plan.Plan.{Plan as Plans}
@@ -30,7 +30,7 @@ module _ {S : Type 0} where
   is_settled (coming t up u b) = true
 
   abbrev pub Settled : List (Search S) → Type 0
-  Settled ss = All (λ s. is_settled s.focus ≡ true) ss
+  Settled ss = AllByRecursion (λ s. is_settled s.focus ≡ true) ss
 
 -- What a message says of itself where it is one of a run: it goes from one head of the job to another, in one of the searches, with a plan
 -- of the job, which suits its kind.

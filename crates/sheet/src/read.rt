@@ -108,41 +108,9 @@ fn told(progress: Progress) -> Contents
     }
 }
 
-// The exact result of `read` for lengths that are known to be good.
+// Reads a sheet and lays its costs out, each in its place and nothing where no table has an entry.
 fn read_exactly<S: Scale>(sheet: &[u8], costs: &mut [S]) -> Result<Contents, SheetRefusal>
-    requires few { length sheet.now ≤ 24000 }
-    requires room { 1792 ≤ length costs.old }
     ensures { Reads S.Scale.scale S.Scale.coding sheet.now costs.old result costs.new }
-{
-    // a first pass into no memory finds every refusal, so that a refused sheet leaves all costs as they were
-    let progress = match scan(sheet, &mut costs[0..0]) {
-        Ok(progress) => progress,
-        Err(refusal) => return Err(refusal),
-    };
-    let places = &mut costs[0..PLACES];
-    clear(places);
-    let _ = scan(sheet, places);
-    Ok(told(progress))
-}
-
-// The same as `read` for lengths that are known to be good.
-fn read_known<S: Scale>(sheet: &[u8], costs: &mut [S]) -> Result<Contents, SheetRefusal>
-    requires few { length sheet.now ≤ 24000 }
-    requires room { 1792 ≤ length costs.old }
-    ensures exact { Reads S.Scale.scale S.Scale.coding sheet.now costs.old result costs.new }
-    ensures judged { Judged S.Scale.coding sheet.now (length costs.old) result }
-    ensures laid { LaysOut S.Scale.scale S.Scale.coding sheet.now costs.old result costs.new }
-{
-    read_exactly(sheet, costs)
-}
-
-// Reads a sheet into `costs`: each entry goes to its place, and nothing to every other of the 1,792 places; what lies past them
-// stays. Refused are fewer than 1,792 places and more than 24,000 bytes, both at line 0, and then the first line that breaks a
-// rule, by the first rule that it breaks; a refusal leaves all costs as they were.
-pub fn read<S: Scale>(sheet: &[u8], costs: &mut [S]) -> Result<Contents, SheetRefusal>
-    ensures exact { Reads S.Scale.scale S.Scale.coding sheet.now costs.old result costs.new }
-    ensures judged { Judged S.Scale.coding sheet.now (length costs.old) result }
-    ensures laid { LaysOut S.Scale.scale S.Scale.coding sheet.now costs.old result costs.new }
 {
     if costs.len() < PLACES {
         return Err(SheetRefusal {
@@ -156,5 +124,24 @@ pub fn read<S: Scale>(sheet: &[u8], costs: &mut [S]) -> Result<Contents, SheetRe
             breach: Breach::TooLong,
         });
     }
-    read_known(sheet, costs)
+    // a first pass into no memory finds every refusal, so that a refused sheet leaves all costs as they were
+    let progress = match scan(sheet, &mut costs[0..0]) {
+        Ok(progress) => progress,
+        Err(refusal) => return Err(refusal),
+    };
+    let places = &mut costs[0..PLACES];
+    clear(places);
+    let _ = scan(sheet, places);
+    Ok(told(progress))
+}
+
+// Reads a sheet into `costs`: each entry goes to its place, and nothing to every other of the 1,792 places; what lies past them
+// stays. Refused are fewer than 1,792 places and more than 24,000 bytes, both at line 0, and then the first line that breaks a
+// rule, by the first rule that it breaks; a refusal leaves all costs as they were.
+pub fn read<S: Scale>(sheet: &[u8], costs: &mut [S]) -> Result<Contents, SheetRefusal>
+    ensures exact { Reads S.Scale.scale S.Scale.coding sheet.now costs.old result costs.new }
+    ensures judged { Judged S.Scale.coding sheet.now (length costs.old) result }
+    ensures laid { LaysOut S.Scale.scale S.Scale.coding sheet.now costs.old result costs.new }
+{
+    read_exactly(sheet, costs)
 }

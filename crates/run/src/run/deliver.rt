@@ -8,7 +8,7 @@ ghost use Rattle.run.specs.Delivering.{ComesHome};
 ghost use Rattle.run.specs.Promises.{DeliverPromise};
 
 use super::Run;
-use super::searches::come_home;
+use super::searches_out::come_home;
 use super::stopping::stop_others;
 use head::best::Best;
 use head::owed::post_report;

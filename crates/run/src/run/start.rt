@@ -7,7 +7,7 @@ ghost use Rattle.run.specs.Promises.{StartPromise};
 
 use super::Run;
 use super::memory::{clear_bests, clear_records};
-use super::searches::{all_out, come_home};
+use super::searches_out::{all_out, come_home};
 use super::stopping::stop_others;
 use head::best::Best;
 use head::receive::is_enough;

@@ -1,12 +1,18 @@
-use Rattle.std.proofs.Common.{◌≡◌, ℕ, List, ◌++◌, length, take, drop, replicate, sym, refl, ap, ◌∙◌, ap₂, arith}
+use Rattle.std.proofs.Common.{◌≡◌, ℕ, ◌-◌, List, ◌++◌, length, take, drop, replicate, sym, refl, ap, ◌∙◌, ap₂, arith}
 use Rattle.std.proofs.lemmas.List.{nil_from_length, length-take-le}
 use Rattle.sheet.specs.Lines.{lines}
 use Rattle.sheet.specs.Steps.{start}
-use Rattle.sheet.specs.Sheets.{sheet_laid, refused, granted}
+use Rattle.sheet.specs.Sheets.{sheet_laid, too_little, too_long, refused, granted}
 use Rattle.sheet.proofs.Lines.{read_ends}
 use Rattle.sheet.proofs.read.read_exactly.Given as given
 use Rattle.sheet.proofs.read.read_exactly.Goals as goal
 use Rattle.sheet.proofs.read.read_exactly.Goals.{After-scan}
+
+pub returns-then-costs-lt-PLACES : goal.returns-then-costs-lt-PLACES
+returns-then-costs-lt-PLACES g c = too_little (omega arith) refl refl
+
+pub returns-then-sheet-gt-MOST_BYTES : goal.returns-then-sheet-gt-MOST_BYTES
+returns-then-sheet-gt-MOST_BYTES g c = too_long (omega arith) (omega arith) refl refl
 
 -- the first pass leaves the memory as it was
 untouched : (g : given.Over) (c : After-scan g) → c.scan.new.costs ++ c.args.costs.now ≡ c.args.costs.now
