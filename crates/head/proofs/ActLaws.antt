@@ -156,11 +156,11 @@ module _ {S : Type 0} {s : Operations S} (laws : Laws s) where
         (λ _ _. b)
 
     trying_few : (is : List ℕ) (left : SetupSet) (best : Best S) → All (λ i. i < setups j h) is → length (trying s j costs h v t is left best).posts ≤ 7
-    trying_few [] left best own = unfold trying in returns-few (eqb h 1)
+    trying_few [] left best own = unfold trying in returns_few (eqb h 1)
       where
-        returns-few : (b : Bool) → length (cond b [] (message Return t.sender h v best.plan best.cost ∷ [])) ≤ 7
-        returns-few true = omega arith
-        returns-few false = omega arith
+        returns_few : (b : Bool) → length (cond b [] (message Return t.sender h v best.plan best.cost ∷ [])) ≤ 7
+        returns_few true = omega arith
+        returns_few false = omega arith
     trying_few (i ∷ is) left best own =
         by_ways j costs h v t (λ r. length r.posts ≤ 7) i is left best
         (λ _. trying_few is (without_setup left i) best own.1)

@@ -1,6 +1,6 @@
 // Why a call declines.
 ghost use Rattle.std.specs.Prelude.{◌≡◌};
-ghost use Rattle.job.specs.Refusals.{number as number_of_lem};
+ghost use Rattle.job.specs.Refusals.{number as number_of};
 
 // One case for each number; `number` in specs/Refusals.antt has the numbers.
 #[derive(Clone, Copy)]
@@ -35,7 +35,7 @@ pub enum Refusal {
 
 impl Refusal {
     pub fn number(self) -> u8
-        ensures { result ≡ number_of_lem self }
+        ensures { result ≡ number_of self }
     {
         match self {
             Refusal::TooLong => 1,
