@@ -104,9 +104,9 @@ module _ {S : Type 0} (s : Operations S) (j : Job) (costs : List S) where
   abbrev pub on_report : ℕ → Record S → Message S → Best S → Reply S
   on_report picked r m best =
       let gathers = gathers_on r m best in
-      let GivesUp = goes_on m.to m.search r best in
+      let gives_up = goes_on m.to m.search r best in
       let hands = hands_on picked r m best in
-      cond (is_last r m) (cond (hopeless s best (at_least r m)) GivesUp hands) gathers
+      cond (is_last r m) (cond (hopeless s best (at_least r m)) gives_up hands) gathers
 
   -- Plan message: the record takes it and searches on, from setup 0.
   abbrev pub on_plan : Message S → Best S → Reply S

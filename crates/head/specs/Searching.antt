@@ -81,10 +81,10 @@ module _ {S : Type 0} (s : Operations S) (j : Job) (costs : List S) (h v : ℕ) 
   trying [] left best = comes_back best
   trying (i ∷ is) left best =
       let left' = without_setup left i in
-      let GivesUp = trying is left' best in
+      let gives_up = trying is left' best in
       let finds = after (notices_of i) (trying is left' (found i)) in
       let must_ask = asks i left' best in
-      cond (hopeless s best (trial_cost i)) GivesUp (cond (is_complete j (trial_plan i)) finds must_ask)
+      cond (hopeless s best (trial_cost i)) gives_up (cond (is_complete j (trial_plan i)) finds must_ask)
 
   -- from a set of untried setups
   abbrev pub search_on : SetupSet → Best S → Searched S

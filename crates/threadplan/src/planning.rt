@@ -1,6 +1,4 @@
 // From a sheet to the lines that answer it.
-ghost use Rattle.std.specs.Prelude.{◌≤◌, length};
-
 use answer::refusal::refusal_line;
 use answer::write::write;
 use head::best::Best;
