@@ -2,7 +2,8 @@
 use Rattle.std.proofs.Common.{◌≡◌, ℕ, ◌+◌, ◌-◌, ◌*◌, ◌/◌, ◌%◌, ◌<◌, ◌≤◌, List, [], ◌∷◌, ◌++◌, length, get_or, take, drop, set, sym, refl, ap, ◌∙◌, subst, ap₂, append_assoc, append-nil, arith, length-append, length-set}
 use Rattle.std.proofs.lemmas.List.{take_more, take_more_set, drop-set-lt, drop-drop, take-append-drop, flat_map_more}
 use Rattle.answer.specs.Hex.{digit, pair, hex}
-use Rattle.answer.specs.Cursors.{Written}
+use Rattle.answer.specs.declared.hex.Lines.{Lines}
+use Rattle.answer.specs.Cursors.{Written, Puts}
 
 -- what lies past a place stays when the place moves on
 past : (xs ys : List ℕ) (m n : ℕ) → m ≤ n → drop m xs ≡ drop m ys → drop n xs ≡ drop n ys
@@ -20,14 +21,18 @@ written_then {xs} {ys} {zs} {bs} {cs} {at} {mid} {end} p q = record {
   back = q.back ∙ past ys xs mid end (omega (arith, q.end_is)) p.back;
 }
 
+pub puts_then : {a b d : Lines} {bs cs : List ℕ} → Puts a bs b → Puts b cs d → Puts a (bs ++ cs) d
+puts_then p q = record { written = written_then p.written q.written; room = q.room ∙ p.room; same_memory = q.same_memory ∙ p.same_memory }
+
 pub written_one : (xs : List ℕ) (at b : ℕ) → at < length xs → Written xs at (b ∷ []) (at + 1) (set xs at b)
 written_one xs at b lt = record { end_is = refl; front = take_more_set xs at b lt; back = drop-set-lt (at + 1) xs at b (omega arith) }
 
--- all that is written from the front on
-pub written_front : {xs ys bs : List ℕ} {end : ℕ} → Written xs 0 bs end ys → (end ≡ length bs) × (ys ≡ bs ++ drop (length bs) xs)
-written_front {xs} {ys} {bs} {end} p =
-    let e : end ≡ length bs = omega (arith, p.end_is) in
-    (e, sym (take-append-drop end ys) ∙ ap (λ (l : List ℕ). l ++ drop end ys) p.front ∙ ap (λ (l : List ℕ). bs ++ l) p.back ∙ ap (λ (n : ℕ). bs ++ drop n xs) e)
+-- all that is put from the front on, where the memory held `before`
+pub written_front : {a b : Lines} {bs before : List ℕ} → a.end ≡ 0 → a.out.now ≡ before → Puts a bs b → (b.end ≡ length bs) × (b.out.now ≡ bs ++ drop (length bs) before)
+written_front {a} {b} {bs} {before} zero_is was p =
+    let e : b.end ≡ length bs = omega (arith, p.written.end_is) in
+    let front : take b.end b.out.now ≡ bs = p.written.front ∙ ap (λ (n : ℕ). take n a.out.now ++ bs) zero_is in
+    (e, sym (take-append-drop b.end b.out.now) ∙ ap₂ ◌++◌ front (p.written.back ∙ ap₂ drop e was))
 
 pub hex_length : (bs : List ℕ) → length (hex bs) ≡ 2 * length bs
 hex_length [] = refl

@@ -1,7 +1,7 @@
 // Writing hexadecimal digits.
 ghost use Rattle.std.specs.Prelude.{◌≡◌, ◌+◌, ◌*◌, ◌<◌, ◌≤◌, [], ◌∷◌, length};
 ghost use Rattle.answer.specs.Hex.{digit as digit_of, pair, hex};
-ghost use Rattle.answer.specs.Cursors.{Written};
+ghost use Rattle.answer.specs.Cursors.{Puts};
 
 fn digit(value: u8) -> u8
     requires { value < 16 }
@@ -14,33 +14,58 @@ fn digit(value: u8) -> u8
     }
 }
 
-// Writes the two digits of a byte at a place, and answers where they end.
-fn put_byte(out: &mut [u8], at: usize, byte: u8) -> usize
-    requires { at + 2 ≤ length out.old }
-    ensures { Written out.old at (pair byte) result out.new }
-{
-    out[at] = digit(byte / 16);
-    out[at + 1] = digit(byte % 16);
-    at + 2
+// Lines that are written to lent memory, one after another: `end` is where they end so far.
+#[derive(Drop)]
+pub(crate) struct Lines<'a> {
+    out: &'a mut [u8],
+    end: usize,
 }
 
-// Writes the digits of some bytes from a place on, and answers where they end.
-pub(crate) fn put_bytes(out: &mut [u8], at: usize, bytes: &[u8]) -> usize
-    requires { at + 2 * length bytes.now ≤ length out.old }
-    ensures { Written out.old at (hex bytes.now) result out.new }
-{
-    let mut end = at;
-    for byte in bytes {
-        end = put_byte(out, end, *byte);
+impl<'a> Lines<'a> {
+    // No line yet.
+    pub(crate) fn new(out: &'a mut [u8]) -> Lines<'a>
+        ensures front { result.end ≡ 0 }
+        ensures memory { result.out.now ≡ out.old }
+        ensures same_memory { result.out.ghost_name ≡ out.entry.ghost_name }
+    {
+        Lines { out, end: 0 }
     }
-    end
-}
 
-// Ends a line at a place, and answers where the next begins.
-pub(crate) fn put_end(out: &mut [u8], at: usize) -> usize
-    requires { at + 1 ≤ length out.old }
-    ensures { Written out.old at (10 ∷ []) result out.new }
-{
-    out[at] = b'\n';
-    at + 1
+    // How many bytes were written.
+    pub(crate) fn end(&self) -> usize
+        ensures { result ≡ self.now.end }
+    {
+        self.end
+    }
+
+    // Writes the two digits of a byte.
+    fn put_byte(&mut self, byte: u8)
+        requires { self.old.end + 2 ≤ length self.old.out.now }
+        ensures { Puts self.old (pair byte) self.new }
+    {
+        let at = self.end;
+        self.out[at] = digit(byte / 16);
+        self.out[at + 1] = digit(byte % 16);
+        self.end = at + 2;
+    }
+
+    // Writes the digits of some bytes.
+    pub(crate) fn put_bytes(&mut self, bytes: &[u8])
+        requires { self.old.end + 2 * length bytes.now ≤ length self.old.out.now }
+        ensures { Puts self.old (hex bytes.now) self.new }
+    {
+        for byte in bytes {
+            self.put_byte(*byte);
+        }
+    }
+
+    // Ends a line.
+    pub(crate) fn end_line(&mut self)
+        requires { self.old.end + 1 ≤ length self.old.out.now }
+        ensures { Puts self.old (10 ∷ []) self.new }
+    {
+        let at = self.end;
+        self.out[at] = b'\n';
+        self.end = at + 1;
+    }
 }

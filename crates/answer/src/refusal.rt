@@ -2,7 +2,7 @@
 ghost use Rattle.std.specs.Prelude.{◌≡◌};
 ghost use Rattle.answer.specs.Lines.{refusal_line as line_of};
 
-use crate::hex::{put_bytes, put_end};
+use crate::hex::Lines;
 use job::refusal::Refusal;
 
 // FF, the number of the refusal, and the number of the line in 2 bytes.
@@ -11,7 +11,8 @@ pub fn refusal_line(refusal: Refusal, line: u16) -> [u8; 9]
 {
     let [high, low] = line.to_be_bytes();
     let mut out = [0; 9];
-    let end = put_bytes(&mut out, 0, &[255, refusal.number(), high, low]);
-    put_end(&mut out, end);
+    let mut lines = Lines::new(&mut out);
+    lines.put_bytes(&[255, refusal.number(), high, low]);
+    lines.end_line();
     out
 }

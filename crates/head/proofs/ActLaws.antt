@@ -16,12 +16,11 @@ use Rattle.link.specs.declared.message.Kind.{Kind}
 use Rattle.link.specs.declared.message.Kind.TheVariants.{Request, Report, Plan as PlanMessage, Return, Notice, Stop}
 use Rattle.link.specs.declared.message.Message.{Message}
 use Rattle.link.specs.Messages.{message}
-use Rattle.head.specs.declared.setups.SetupSet.{SetupSet}
 use Rattle.head.specs.declared.best.Best.{Best}
 use Rattle.head.specs.declared.record.State.{State}
 use Rattle.head.specs.declared.record.State.TheVariants.{Resting, Gathering, Below}
 use Rattle.head.specs.declared.record.Record.{Record}
-use Rattle.head.specs.SetupSets.{has_setup, without_setup, members, first_setups}
+use Rattle.head.specs.SetupSets.{SetupSet, has_setup, without_setup, members, first_setups}
 use Rattle.head.specs.Bests.{hopeless, adopted}
 use Rattle.head.specs.Searching.{Searched, Task, trial_plan, trial_cost, found, notices_of, asks, after, trying}
 use Rattle.head.specs.Replies.{Reply, task, carried, is_last, at_least, on_report, goes_on, gathers_on, hands_on, reply}

@@ -1,48 +1,50 @@
 -- Collecting heads into a set, and sending to each of them: one head at a time. Assumes nothing.
-use Rattle.std.proofs.Common.{◌≡◌, ℕ, zero, suc, ◌+◌, ◌-◌, ◌<◌, ◌≤◌, Bool, true, false, ◌||◌, List, [], ◌∷◌, ◌++◌, map, length, is_err, Ok, Err, Result, sym, refl, ap, ◌∙◌, subst, inl, inr, append-nil, arith}
-use Rattle.std.specs.List.{range_with_len}
-use Rattle.std.proofs.lemmas.List.{map-append}
-use Rattle.std.proofs.lemmas.Bool.{cases_Bool, cases_lt}
+use Rattle.std.proofs.Common.{◌≡◌, ℕ, zero, suc, ◌+◌, ◌-◌, ◌≤◌, Bool, true, false, ◌||◌, List, [], ◌∷◌, ◌++◌, map, length, is_err, Ok, Err, Result, sym, refl, ap, ◌∙◌, subst, inl, inr, append-nil, arith}
+use Rattle.std.specs.List.{range_with_len, filter, fold}
+use Rattle.std.proofs.lemmas.List.{map-append, set_comm}
+use Rattle.std.proofs.lemmas.Bool.{cases_Bool, cases_eq, cases_lt}
 use Rattle.job.specs.declared.refusal.Refusal.{Refusal}
 use Rattle.job.specs.declared.job.Job.{Job}
 use Rattle.job.specs.Lists.{those}
 use Rattle.job.specs.Plans.{heads}
-use Rattle.link.specs.declared.heads.HeadSet.{HeadSet}
 use Rattle.link.specs.declared.message.Message.{Message}
-use Rattle.link.specs.HeadSets.{with_head, no_heads, heads_in}
-use Rattle.link.specs.Messages.{is_notice, message}
+use Rattle.link.specs.HeadSets.{HeadSet, with_head, no_heads, heads_in}
+use Rattle.link.specs.Messages.{is_notice, message, addressed}
 use Rattle.link.specs.Posting.{room, loses, Sent, Sends}
 use Rattle.link.proofs.Posting.{loses_none, loses_comes, loses_dropped, sent_none, sent_then}
 use Rattle.problem.proofs.Naming.{those_passes, those_fails}
-use Rattle.problem.proofs.Walks.{those_yes, those_not, those_end}
-use Rattle.head.specs.Sendings.{addressed, to_each, heads_of}
+use Rattle.head.specs.Sendings.{to_each, heads_of}
 use Rattle.head.proofs.HeadSets.{heads_of_collected}
 
--- the heads from h to n that pass a test are in the set
-module _ (p : ℕ → Bool) (n : ℕ) where
-  abbrev pub Collected : ℕ → HeadSet → Type 0
-  Collected h s = (1 ≤ h) × (s ≡ heads_in (those p (range_with_len h (n + 1 - h))))
+-- the heads that pass a test, put into a set one after the other
+with_both : (s : HeadSet) (g h : ℕ) → with_head (with_head s g) h ≡ with_head (with_head s h) g
+with_both s zero zero = refl
+with_both s zero (suc h) = refl
+with_both s (suc g) zero = refl
+with_both s (suc g) (suc h) = elim (cases_eq g h) [
+  | inl same ↦ rw same refl
+  | inr ne ↦ ap (λ (xs : List Bool). record { members = xs }) (set_comm s.members g h true true ne)
+]
 
-  pub none_collected : (s : HeadSet) → s ≡ no_heads → Collected (n + 1) s
-  unfolding heads_in
-  none_collected s e = (omega arith, e ∙ ap heads_in (sym (those_end p (n + 1) (n + 1) (omega arith))))
+with_first : (s : HeadSet) (h : ℕ) (hs : List ℕ) → fold with_head (with_head s h) hs ≡ with_head (fold with_head s hs) h
+with_first s h [] = refl
+with_first s h (g ∷ gs) = ap (λ (t : HeadSet). fold with_head t gs) (with_both s h g) ∙ with_first (with_head s g) h gs
 
-  module _ (h : ℕ) (s : HeadSet) (some : 1 < h) (few : h ≤ n + 1) (c : Collected h s) where
-    next : those p (range_with_len (h - 1 + 1) (n + 1 - (h - 1 + 1))) ≡ those p (range_with_len h (n + 1 - h))
-    next = let e : h - 1 + 1 ≡ h = omega arith in ap (λ (k : ℕ). those p (range_with_len k (n + 1 - k))) e
+put_together : (hs : List ℕ) → fold with_head no_heads hs ≡ heads_in hs
+unfolding heads_in
+put_together [] = refl
+put_together (h ∷ hs) = with_first no_heads h hs ∙ ap (λ (s : HeadSet). with_head s h) (put_together hs)
 
-    pub one_collected : p (h - 1) ≡ true → Collected (h - 1) (with_head s (h - 1))
-    unfolding heads_in
-    one_collected e = (omega arith, ap (λ (t : HeadSet). with_head t (h - 1)) (c.1 ∙ ap heads_in (sym next)) ∙ ap heads_in (sym (those_yes p (h - 1) (n + 1) (omega arith) e)))
+filter_those : (p : ℕ → Bool) (hs : List ℕ) → filter p hs ≡ those p hs
+unfolding those
+filter_those p [] = refl
+filter_those p (h ∷ hs) = elim (cases_Bool (p h)) [
+  | inl e ↦ rw e (ap (λ t. h ∷ t) (filter_those p hs))
+  | inr e ↦ rw e (filter_those p hs)
+]
 
-    pub one_passed : p (h - 1) ≡ false → Collected (h - 1) s
-    one_passed e = (omega arith, c.1 ∙ ap heads_in (sym next ∙ sym (those_not p (h - 1) (n + 1) (omega arith) e)))
-
-  pub all_collected : (h : ℕ) (s : HeadSet) → h ≤ 1 → Collected h s → s ≡ heads_in (those p (range_with_len 1 n))
-  all_collected h s le c =
-      let e : h ≡ 1 = omega (arith, c.0) in
-      let f : n + 1 - 1 ≡ n = omega arith in
-      c.1 ∙ ap (λ (k : ℕ). heads_in (those p (range_with_len k (n + 1 - k)))) e ∙ ap (λ (k : ℕ). heads_in (those p (range_with_len 1 k))) f
+pub collected : (p : ℕ → Bool) (hs : List ℕ) → fold with_head no_heads (filter p hs) ≡ heads_in (those p hs)
+collected p hs = ap (fold with_head no_heads) (filter_those p hs) ∙ put_together (those p hs)
 
 counting_push : (a n : ℕ) → range_with_len a (suc n) ≡ range_with_len a n ++ (a + n) ∷ []
 counting_push a zero = let e : a + 0 ≡ a = omega arith in rw e

@@ -6,25 +6,24 @@ use Rattle.std.proofs.lemmas.Bool.{cases_Bool, cases_eq, cond-true, lt-ltb}
 use Rattle.job.specs.declared.job.Job.{Job}
 use Rattle.job.specs.Lists.{those}
 use Rattle.job.specs.Plans.{heads}
-use Rattle.link.specs.declared.heads.HeadSet.{HeadSet}
-use Rattle.link.specs.HeadSets.{no_heads, has_head, with_head, heads_in}
+use Rattle.link.specs.HeadSets.{HeadSet, no_heads, has_head, with_head, heads_in}
 use Rattle.problem.proofs.Naming.{those_passes, those_fails, those_like, all_counting}
 use Rattle.head.specs.Sendings.{heads_of}
 
-pub has_with_same : (s : HeadSet) (h : ℕ) → length s.heads ≡ 8 → 1 ≤ h → h ≤ 8 → has_head (with_head s h) h ≡ true
+pub has_with_same : (s : HeadSet) (h : ℕ) → length s.members ≡ 8 → 1 ≤ h → h ≤ 8 → has_head (with_head s h) h ≡ true
 has_with_same s zero long l u = absurd (omega arith)
-has_with_same s (suc k) long l u = cond-true _ _ _ (lt-ltb k 8 (omega arith)) ∙ get_or-set_same s.heads k true false (omega arith)
+has_with_same s (suc k) long l u = cond-true _ _ _ (lt-ltb k 8 (omega arith)) ∙ get_or-set_same s.members k true false (omega arith)
 
 pub has_with_other : (s : HeadSet) (g h : ℕ) → h ≢ g → has_head (with_head s g) h ≡ has_head s h
 has_with_other s zero h ne = refl
 has_with_other s (suc g) zero ne = refl
-has_with_other s (suc g) (suc h) ne = ap (λ (b : Bool). cond (ltb h 8) b false) (get_or-set_other s.heads g h true false (omega arith))
+has_with_other s (suc g) (suc h) ne = ap (λ (b : Bool). cond (ltb h 8) b false) (get_or-set_other s.members g h true false (omega arith))
 
-with_length : (s : HeadSet) (h : ℕ) → length (with_head s h).heads ≡ length s.heads
+with_length : (s : HeadSet) (h : ℕ) → length (with_head s h).members ≡ length s.members
 with_length s zero = refl
-with_length s (suc k) = length-set s.heads k true
+with_length s (suc k) = length-set s.members k true
 
-pub heads_in_length : (hs : List ℕ) → length (heads_in hs).heads ≡ 8
+pub heads_in_length : (hs : List ℕ) → length (heads_in hs).members ≡ 8
 unfolding heads_in
 heads_in_length [] = refl
 heads_in_length (h ∷ hs) = with_length (heads_in hs) h ∙ heads_in_length hs
@@ -33,10 +32,10 @@ has_none : (h : ℕ) → has_head no_heads h ≡ false
 has_none zero = refl
 has_none (suc k) = elim (cases_Bool (ltb k 8)) [ inl e ↦ rw e (at k) | inr e ↦ rw e ]
   where
-    at : (k : ℕ) → lib.ListN.get_or no_heads.heads k false ≡ false
+    at : (k : ℕ) → lib.ListN.get_or no_heads.members k false ≡ false
     at k = elim (Rattle.std.proofs.lemmas.Bool.cases_lt k 8) [
       | inl lt ↦ Rattle.std.proofs.lemmas.List.get_or-replicate 8 k false false lt
-      | inr ge ↦ Rattle.std.proofs.lemmas.List.get_or_past no_heads.heads k false ge
+      | inr ge ↦ Rattle.std.proofs.lemmas.List.get_or_past no_heads.members k false ge
     ]
 
 module _ (p : ℕ → Bool) where

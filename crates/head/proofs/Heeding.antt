@@ -25,7 +25,7 @@ turned_back records at d known stays e = ap (set records at) e ∙ set-get_or re
 turned_back records at d known (becomes v) e = (known, e, refl)
 
 module _ {S : Type 0} (s : Operations S) (out : ℕ) (j : Job) (costs : List S) (records : List (Record S)) (bests : List (Best S)) (limit : ℕ) (bag : List (Message S)) (m : Message S)
-    (placed : Placed j costs records bests m) where
+    (placed : Placed j records bests m) where
   abbrev first : ℕ
   first = 8 * (m.to - 1)
 

@@ -3,7 +3,6 @@ pub mod HeadSets
 pub mod EachHead
 pub mod Trying
 pub mod Ranges
-pub mod Missing
 pub mod Replying
 pub mod Receipts
 pub mod Rows

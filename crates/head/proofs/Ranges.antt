@@ -1,29 +1,56 @@
--- A test of every number of a range, one at a time: what is left gives the whole. Assumes nothing.
-use Rattle.std.proofs.Common.{◌≡◌, ℕ, zero, suc, ◌+◌, ◌-◌, ◌<◌, ◌≤◌, Bool, true, false, not, ◌&&◌, ◌||◌, ap, ◌∙◌, inl, inr, arith}
-use Rattle.std.specs.List.{range_with_len}
-use Rattle.std.proofs.lemmas.Bool.{cases_lt, and_parts}
-use Rattle.job.specs.Lists.{every}
-use Rattle.problem.proofs.Walks.{counting_step, counting_end}
+-- Tests of every number of a range, by the iterators that go through it. Assumes nothing.
+use Rattle.std.proofs.Common.{◌≡◌, ℕ, zero, suc, ◌+◌, ◌-◌, ◌<◌, ◌≤◌, Bool, true, false, not, ◌&&◌, ◌||◌, List, [], ◌∷◌, refl, ap, ◌∙◌, inl, inr, arith}
+use Rattle.std.specs.List.{range_with_len, list_all}
+use Rattle.std.specs.declared.ops.RangeInclusive.{RangeInclusive}
+use Rattle.std.specs.Range.{range_inclusive_len, range_inclusive_start, range_inclusive_end, range_inclusive_exhausted}
+use Rattle.std.specs.Iterator.{AlwaysYields}
+use Rattle.std.proofs.iter.runs.Sources.{nat_range_inclusive_steps}
+use Rattle.std.proofs.lemmas.Iterator.{YieldsList}
+use Rattle.std.proofs.lemmas.Bool.{cases_Bool, cases_lt, and_parts}
+use Rattle.job.specs.Lists.{those, every}
 
-module _ (p : ℕ → Bool) (a z : ℕ) where
-  step : a < z → every p (range_with_len a (z - a)) ≡ (p a && every p (range_with_len (a + 1) (z - (a + 1))))
-  unfolding every
-  step h = ap (every p) (counting_step a z h)
+-- how many numbers are left of `a..=b`
+abbrev left_by : RangeInclusive ℕ → Bool → ℕ
+left_by s = range_inclusive_len (λ x y. y - x) (range_inclusive_start s) (range_inclusive_end s)
 
-  pub every_fails : a < z → p a ≡ false → every p (range_with_len a (z - a)) ≡ false
-  every_fails h e = step h ∙ ap (λ (b : Bool). b && every p (range_with_len (a + 1) (z - (a + 1)))) e
+abbrev left : RangeInclusive ℕ → ℕ
+left s = left_by s (range_inclusive_exhausted s)
 
-  pub every_passes : a < z → p a ≡ true → every p (range_with_len a (z - a)) ≡ every p (range_with_len (a + 1) (z - (a + 1)))
-  every_passes h e = step h ∙ ap (λ (b : Bool). b && every p (range_with_len (a + 1) (z - (a + 1)))) e
+yields_from : (n a : ℕ) (s : RangeInclusive ℕ) → left s ≡ n → (1 ≤ n → range_inclusive_start s ≡ a) → AlwaysYields nat_range_inclusive_steps (λ x. x) s (range_with_len a n)
+yields_from zero a s e at = λ x j t. omega (arith, t.1.1, e)
+yields_from (suc n) a s e at = (
+  (λ j t. omega (arith, t.1.0, e)),
+  λ x j t. (
+    t.1.0 ∙ at (omega arith),
+    yields_from n (a + 1) j (omega (arith, t.1.1, e)) (λ some. elim (cases_Bool (range_inclusive_exhausted j)) [
+      | inl spent ↦ absurd (omega (arith, t.1.1, e, some, ap (left_by j) spent))
+      | inr fresh ↦ t.1.2 fresh ∙ ap (λ (k : ℕ). k + 1) (at (omega arith))
+    ]),
+  ),
+)
 
-  pub every_end : z ≤ a → every p (range_with_len a (z - a)) ≡ true
-  unfolding every
-  every_end h = ap (every p) (counting_end a z h)
+-- what `a..=b` yields: t is the range as it was made, and s what the chain holds of it
+pub YieldsList-from_inclusive : {s t : RangeInclusive ℕ} (a b n : ℕ) → s ≡ t → range_inclusive_start t ≡ a → range_inclusive_end t ≡ b → range_inclusive_exhausted t ≡ false → b + 1 - a ≡ n →
+    YieldsList nat_range_inclusive_steps (λ x. x) s (range_with_len a n)
+YieldsList-from_inclusive {t = t} a b n same first last fresh many =
+    rw same (record { runs = yields_from n a t (ap (left_by t) fresh ∙ omega (arith, first, last, many)) (λ _. first) })
+
+-- that all of a list pass, in the words of std
+pub every_listed : {X : Type 0} (p : X → Bool) (xs : List X) → list_all p xs ≡ every p xs
+unfolding every
+every_listed p [] = refl
+every_listed p (x ∷ xs) = ap (λ (b : Bool). p x && b) (every_listed p xs)
+
+-- the same of those that another test fails
+pub every_of_those : {X : Type 0} (named heard : X → Bool) (xs : List X) → list_all (λ x. named x || heard x) xs ≡ every heard (those (λ x. not (named x)) xs)
+unfolding every those
+every_of_those named heard [] = refl
+every_of_those named heard (x ∷ xs) = elim (cases_Bool (named x)) [
+  | inl e ↦ rw e (every_of_those named heard xs)
+  | inr e ↦ rw e (ap (λ (b : Bool). heard x && b) (every_of_those named heard xs))
+]
 
 -- whether a member is lawful: it is not there, or it is
-pub lawful_absent : (x y : Bool) → x ≡ false → (not x || y) ≡ true
-lawful_absent x y e = ap (λ (b : Bool). not b || y) e
-
 pub lawful_present : (x y : Bool) → x ≡ true → (not x || y) ≡ y
 lawful_present x y e = ap (λ (b : Bool). not b || y) e
 

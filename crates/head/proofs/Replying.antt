@@ -7,27 +7,25 @@ use Rattle.job.specs.declared.job.Job.{Job}
 use Rattle.job.specs.declared.plan.Plan.{Plan}
 use Rattle.job.specs.Lists.{every}
 use Rattle.job.specs.Plans.{setups, is_setup, named, unnamed_heads, is_of_job}
-use Rattle.problem.proofs.Naming.{setups_few}
-use Rattle.link.specs.declared.heads.HeadSet.{HeadSet}
 use Rattle.link.specs.declared.message.Kind.{Kind}
 use Rattle.link.specs.declared.message.Kind.TheVariants.{Request, Report, Plan as PlanMessage, Return, Notice, Stop}
 use Rattle.link.specs.declared.message.Message.{Message}
 use Rattle.link.specs.Messages.{message}
-use Rattle.link.specs.HeadSets.{has_head, with_head, Picks}
+use Rattle.link.specs.HeadSets.{HeadSet, has_head, with_head, Picks}
 use Rattle.link.specs.Posting.{Sent}
 use Rattle.link.proofs.Posting.{sent_none}
-use Rattle.head.specs.declared.setups.SetupSet.{SetupSet}
 use Rattle.head.specs.declared.best.Best.{Best}
 use Rattle.head.specs.declared.record.State.{State}
 use Rattle.head.specs.declared.record.State.TheVariants.{Resting, Gathering, Below}
 use Rattle.head.specs.declared.record.Record.{Record}
 use Rattle.head.specs.declared.search.Turn.{Turn}
 use Rattle.head.specs.declared.respond.Deed.TheVariants.{Goes as GoesOn, Unsuited}
-use Rattle.head.specs.SetupSets.{no_setups, has_setup, first_setups}
+use Rattle.job.specs.Sets.{first_places}
+use Rattle.head.specs.SetupSets.{SetupSet, no_setups, has_setup, first_setups}
 use Rattle.head.specs.Bests.{hopeless, adopted}
 use Rattle.head.specs.Views.{shows, Turns}
 use Rattle.head.specs.Searching.{search_on}
-use Rattle.head.specs.Replies.{Reply, on_trial, task, choice, carried, quietly, goes_on, heard_from, is_last, at_least, gathers_on, hands_on, on_plan, on_return, reply, asks_picker}
+use Rattle.head.specs.Replies.{Reply, on_trial, task, choice, carried, quietly, goes_on, heard_from, is_last, at_least, gathers_on, hands_on, on_return, reply, asks_picker}
 use Rattle.head.specs.Strays.{untried_fit, expects}
 use Rattle.head.specs.Readiness.{Ready, Searches, Actable, Goes, quiet_turn, Chooses, unsuited, going}
 use Rattle.head.proofs.Ranges.{every_at, lawful_present}
@@ -39,13 +37,13 @@ untried_own j h u fit i has = elim (cases_lt i 8) [
   | inr ge ↦ absurd (both_ways (has_setup u i) (cond-false _ _ _ (Rattle.std.proofs.lemmas.Bool.le-ltb i 8 ge)) has)
 ]
 
-pub ready_on : {S : Type 0} (j : Job) (costs : List S) (h : ℕ) (r : Record S) → Actable j costs h r → Ready j costs h r.received r.untried
-ready_on j costs h r a =
+pub ready_on : {S : Type 0} (j : Job) (h : ℕ) (r : Record S) → Actable j h r → Ready j h r.received r.untried
+ready_on j h r a =
     let p = and_parts (is_of_job j r.received) _ a.in_range in
     let q = and_parts (not (named r.received h)) _ p.1 in
     let t = and_parts (is_setup j h r.setup) _ q.1 in
     let u = and_parts (untried_fit j h r.untried) _ t.1 in
-    record { room = a.room; head = a.head; of_job = p.0; free = not-true _ q.0; own = untried_own j h r.untried u.0 }
+    record { head = a.head; of_job = p.0; free = not-true _ q.0; own = untried_own j h r.untried u.0 }
 
 has_none : (i : ℕ) → has_setup no_setups i ≡ false
 has_none i = elim (cases_lt i 8) [
@@ -53,13 +51,13 @@ has_none i = elim (cases_lt i 8) [
   | inr ge ↦ cond-false _ _ _ (Rattle.std.proofs.lemmas.Bool.le-ltb i 8 ge)
 ]
 
-others_kept : (k i : ℕ) → i ≢ k → get_or (first_setups (suc k)).setups i false ≡ get_or (first_setups k).setups i false
-unfolding first_setups
-others_kept k i ne = get_or-set_other (first_setups k).setups k i true false ne
+others_kept : (k i : ℕ) → i ≢ k → get_or (first_setups (suc k)).members i false ≡ get_or (first_setups k).members i false
+unfolding first_places
+others_kept k i ne = get_or-set_other (first_setups k).members k i true false ne
 
 -- the setups below a number
 pub first_below : (k i : ℕ) → has_setup (first_setups k) i ≡ true → i < k
-first_below zero i e = absurd (both_ways (has_setup (first_setups zero) i) (unfold first_setups in has_none i) e)
+first_below zero i e = absurd (both_ways (has_setup (first_setups zero) i) (unfold first_places in has_none i) e)
 first_below (suc k) i e = elim (cases_eq i k) [
   | inl same ↦ omega arith
   | inr ne ↦
@@ -131,16 +129,7 @@ module _ {S : Type 0} (s : Operations S) (j : Job) (costs : List S) (r : Record 
   none_picked : (b : Bool) → b ≡ false → b ≡ true → Picks (choice j m.to r) 0
   none_picked b n e = absurd (both_ways b n e)
 
-  -- Plan message, return, notice and stop.
-  pub begins_so : (u : SetupSet) (limit : ℕ) (bag : List (Message S)) (t : Turn S) (best' : Best S) (limit' : ℕ) (bag' : List (Message S)) → u ≡ first_setups (min (setups j m.to) 8) →
-      Searches (search_on s j costs m.to m.search (record { received = m.plan; cost = m.cost; sender = m.from }) u best) limit bag t best' limit' bag' → Goes s j costs r m best PlanMessage limit bag t best' limit' bag'
-  begins_so u limit bag t best' limit' bag' is so =
-      let few : min (setups j m.to) 8 ≡ setups j m.to = omega (arith, setups_few j m.to) in
-      let all : u ≡ first_setups (setups j m.to) = is ∙ ap first_setups few in
-      let at : Searches (search_on s j costs m.to m.search (record { received = m.plan; cost = m.cost; sender = m.from }) (first_setups (setups j m.to)) best) limit bag t best' limit' bag' =
-      subst (λ (w : SetupSet). Searches (search_on s j costs m.to m.search (record { received = m.plan; cost = m.cost; sender = m.from }) w best) limit bag t best' limit' bag') all so in
-      goes_by PlanMessage 0 limit bag t best' limit' bag' (on_plan s j costs m best) refl (none_picked false refl) at.looks at.best at.home at.sent
-
+  -- Return, notice and stop.
   pub resumes_so : (kept : Best S) (limit : ℕ) (bag : List (Message S)) (t : Turn S) (best' : Best S) (limit' : ℕ) (bag' : List (Message S)) → kept ≡ adopted s (carried m) best →
       Searches (search_on s j costs m.to m.search (task r) r.untried kept) limit bag t best' limit' bag' → Goes s j costs r m best Return limit bag t best' limit' bag'
   resumes_so kept limit bag t best' limit' bag' is so =

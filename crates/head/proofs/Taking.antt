@@ -1,5 +1,5 @@
 -- A message taken out of the link, and what its head then makes of it, come to what receiving promises. Assumes nothing.
-use Rattle.std.proofs.Common.{◌≡◌, ℕ, Bool, true, false, ◌&&◌, leb, List, [], ◌∷◌, ◌++◌, length, Ok, Err, Result, sym, refl, ap, ◌∙◌, subst, ap₂, inl, inr, append-nil}
+use Rattle.std.proofs.Common.{◌≡◌, ℕ, ◌≤◌, Bool, true, false, ◌&&◌, leb, List, [], ◌∷◌, ◌++◌, length, Ok, Err, Result, sym, refl, ap, ◌∙◌, subst, ap₂, inl, inr, append-nil}
 use Rattle.std.proofs.lemmas.Bool.{cases_Bool, and_parts, leb-true, leb-false}
 use Rattle.scale.specs.Operations.{Operations}
 use Rattle.job.specs.declared.job.Job.{Job}
@@ -33,11 +33,11 @@ module _ {S : Type 0} (j : Job) (costs : List S) (records : List (Record S)) (be
     ]
   ]
 
-  pub placed_so : (m : Message S) → are_enough records bests costs ≡ true → is_addressed j m ≡ true → Placed j costs records bests m
-  placed_so m e a =
-      let n = enough_so e in
-      let t = to_range j m a in
-      record { addressed = a; some_head = t.0; few_heads = t.1; few_searches = search_small j m a; enough_records = n.records; enough_bests = n.bests; enough_costs = n.costs }
+-- an addressed message has its places, where there are enough records and bests
+pub placed_so : {S : Type 0} (j : Job) (records : List (Record S)) (bests : List (Best S)) (m : Message S) → 64 ≤ length records → 8 ≤ length bests → is_addressed j m ≡ true → Placed j records bests m
+placed_so j records bests m r b a =
+    let t = to_range j m a in
+    record { addressed = a; some_head = t.0; few_heads = t.1; few_searches = search_small j m a; enough_records = r; enough_bests = b }
 
 -- a message that is not from one head of the job to another is stray
 pub stray_address : {S : Type 0} (s : Operations S) (out : ℕ) (l : Lent S) (m : Message S) → is_addressed l.job m ≡ false → Heeds s out l m (Err Stray) l

@@ -15,13 +15,13 @@ use Rattle.link.specs.Messages.{message}
 use Rattle.link.specs.HeadSets.{no_heads}
 use Rattle.link.specs.Posting.{Sent}
 use Rattle.link.proofs.Posting.{sent_none, sent_then}
-use Rattle.head.specs.declared.setups.SetupSet.{SetupSet}
 use Rattle.head.specs.declared.best.Best.{Best}
 use Rattle.head.specs.declared.record.State.{State}
 use Rattle.head.specs.declared.record.State.TheVariants.{Resting, Gathering, Below}
 use Rattle.head.specs.declared.record.Record.{Record}
 use Rattle.head.specs.declared.search.Turn.{Turn}
-use Rattle.head.specs.SetupSets.{has_setup, without_setup, members, head_of, lowest_setup}
+use Rattle.job.specs.Sets.{head_of}
+use Rattle.head.specs.SetupSets.{SetupSet, has_setup, without_setup, members, lowest_setup}
 use Rattle.head.specs.Bests.{hopeless}
 use Rattle.head.specs.Views.{rests, view}
 use Rattle.head.specs.Searching.{others, Searched, Task, trial_plan, trial_cost, found, notices_of, asks, comes_back, after, trying, search_on}
@@ -56,14 +56,14 @@ module _ (p : ℕ → Bool) where
 
 has_without_same : (u : SetupSet) (i : ℕ) → has_setup (without_setup u i) i ≡ false
 has_without_same u i =
-    let gone : get_or (set u.setups i false) i false ≡ false = elim (cases_lt i (length u.setups)) [
-      | inl lt ↦ get_or-set_same u.setups i false false lt
-      | inr ge ↦ get_or_past (set u.setups i false) i false (simp length-set ge)
+    let gone : get_or (set u.members i false) i false ≡ false = elim (cases_lt i (length u.members)) [
+      | inl lt ↦ get_or-set_same u.members i false false lt
+      | inr ge ↦ get_or_past (set u.members i false) i false (simp length-set ge)
     ] in
     elim (cases_Bool (ltb i 8)) [ inl e ↦ cond-true _ _ _ e ∙ gone | inr e ↦ cond-false _ _ _ e ]
 
 has_without_other : (u : SetupSet) (i k : ℕ) → k ≢ i → has_setup (without_setup u i) k ≡ has_setup u k
-has_without_other u i k ne = ap (λ (b : Bool). cond (ltb k 8) b false) (get_or-set_other u.setups i k false false ne)
+has_without_other u i k ne = ap (λ (b : Bool). cond (ltb k 8) b false) (get_or-set_other u.members i k false false ne)
 
 -- the lowest member, and what is left without it
 lowest_first : (xs : List ℕ) (i : ℕ) → head_of xs ≡ Some i → (is : List ℕ) × (xs ≡ i ∷ is)

@@ -1,14 +1,16 @@
 -- What the calls of a run are lent, at one moment: the job, the costs, the records, the bests, and a link, which is its limit and
 -- some list of what waits in it. Assumes nothing.
-use Rattle.std.specs.Prelude.{ℕ, ◌-◌, ◌/◌, ◌%◌, ◌^◌, ◌<◌, ◌≤◌, Bool, ◌&&◌, ◌⊎◌, List, length, ◌==◌, nat_le, slice_index_or}
+use Rattle.std.specs.Prelude.{◌≡◌, ℕ, ◌-◌, ◌/◌, ◌%◌, ◌^◌, ◌<◌, ◌≤◌, Bool, ◌&&◌, ◌⊎◌, List, length, ◌==◌, nat_le, slice_index_or}
 use Rattle.scale.specs.Operations.{Operations}
 use Rattle.job.specs.declared.job.Job.{Job}
 use Rattle.job.specs.Plans.{empty}
+use Rattle.problem.specs.declared.price.Problem.{Problem}
 use Rattle.link.specs.declared.message.Message.{Message}
 use Rattle.link.specs.HeadSets.{no_heads}
 use Rattle.head.specs.declared.record.State.TheVariants.{Resting}
 use Rattle.head.specs.declared.record.Record.{Record}
 use Rattle.head.specs.declared.best.Best.{Best}
+use Rattle.head.specs.declared.memory.Memory.{Memory}
 use Rattle.head.specs.SetupSets.{no_setups}
 use Rattle.head.specs.Bests.{at_first}
 use Rattle.head.specs.Views.{spot}
@@ -23,6 +25,15 @@ pub record Lent (S : Type 0) : Type 0 where
 
 abbrev pub lent : {S : Type 0} → Job → List S → List (Record S) → List (Best S) → ℕ → List (Message S) → Lent S
 lent j c r b l m = record { job = j; costs = c; records = r; bests = b; limit = l; bag = m }
+
+-- the same of a problem and of memory
+abbrev pub lent_by : {S : Type 0} → Problem S → Memory S → ℕ → List (Message S) → Lent S
+lent_by p m limit bag = lent p.job.now p.costs.now m.records.now m.bests.now limit bag
+
+-- the records and the bests still stand in the places that were lent
+pub record SamePlaces {S : Type 0} (m m' : Memory S) : Type 0 where
+  pub records : m'.records.ghost_name ≡ m.records.ghost_name
+  pub bests : m'.bests.ghost_name ≡ m.bests.ghost_name
 
 -- enough memory: 64 records, 8 bests and 1,792 costs; or too little of one of them
 pub record Enough {S : Type 0} (l : Lent S) : Type 0 where

@@ -10,3 +10,4 @@ pub mod Owing
 pub mod Lent
 pub mod Receiving
 pub mod HeadLaws
+pub mod Words

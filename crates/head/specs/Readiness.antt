@@ -1,5 +1,5 @@
 -- What the code of a head asks of its callers and tells them, in terms of the definitions. Assumes nothing.
-use Rattle.std.specs.Prelude.{◌≡◌, ℕ, ◌≤◌, Bool, true, false, cond, List, [], ◌∷◌, ◌++◌, map, length, ◌==◌, ◌≢◌}
+use Rattle.std.specs.Prelude.{◌≡◌, ℕ, Bool, true, false, cond, List, [], ◌∷◌, ◌++◌, map, ◌==◌, ◌≢◌}
 use Rattle.scale.specs.Operations.{Operations}
 use Rattle.job.specs.declared.job.Job.{Job}
 use Rattle.job.specs.declared.plan.Plan.{Plan}
@@ -12,21 +12,18 @@ use Rattle.link.specs.HeadSets.{no_heads, Picks}
 use Rattle.link.specs.Posting.{Sent}
 use Rattle.head.specs.declared.record.State.TheVariants.{Resting, Gathering}
 use Rattle.head.specs.declared.record.Record.{Record}
-use Rattle.head.specs.declared.setups.SetupSet.{SetupSet}
 use Rattle.head.specs.declared.best.Best.{Best}
 use Rattle.head.specs.declared.search.Turn.{Turn}
 use Rattle.head.specs.declared.respond.Deed.{Deed}
 use Rattle.head.specs.declared.respond.Deed.TheVariants.{Owes, Goes as GoesOn, Unsuited}
-use Rattle.head.specs.SetupSets.{has_setup}
+use Rattle.head.specs.SetupSets.{SetupSet, has_setup}
 use Rattle.head.specs.Views.{view, Turns}
 use Rattle.head.specs.Searching.{Searched}
 use Rattle.head.specs.Replies.{on_trial, choice, reply, asks_picker}
 use Rattle.head.specs.Strays.{is_in_range, is_addressed, is_sound, due, expects}
 
--- A head can search on: all costs are there, the plan that it was sent is of the job and does not name it, and all setups that are
--- left are its own.
-pub record Ready {S : Type 0} (j : Job) (costs : List S) (h : ℕ) (received : Plan) (untried : SetupSet) : Type 0 where
-  pub room : 1792 ≤ length costs
+-- A head can search on: the plan that it was sent is of the job and does not name it, and all setups that are left are its own.
+pub record Ready (j : Job) (h : ℕ) (received : Plan) (untried : SetupSet) : Type 0 where
   pub head : is_head j h ≡ true
   pub of_job : is_of_job j received ≡ true
   pub free : named received h ≡ false
@@ -55,9 +52,8 @@ pub record Searches {S : Type 0} (r : Searched S) (limit : ℕ) (bag : List (Mes
   pub home : t.home ≡ r.home
   pub sent : Sent limit bag (r.notices ++ r.posts) t.lost limit' bag'
 
--- A head can act on a record that does not rest: all costs are there, and the record is in the ranges of the job.
-pub record Actable {S : Type 0} (j : Job) (costs : List S) (h : ℕ) (r : Record S) : Type 0 where
-  pub room : 1792 ≤ length costs
+-- A head can act on a record that does not rest: the record is in the ranges of the job.
+pub record Actable {S : Type 0} (j : Job) (h : ℕ) (r : Record S) : Type 0 where
   pub head : is_head j h ≡ true
   pub in_range : is_in_range j h r ≡ true
 
@@ -71,9 +67,8 @@ pub record Goes {S : Type 0} (s : Operations S) (j : Job) (costs : List S) (r : 
   pub home : t.home ≡ (reply s j costs picked r m best kind).home
   pub sent : Sent limit bag ((reply s j costs picked r m best kind).notices ++ (reply s j costs picked r m best kind).posts) t.lost limit' bag'
 
--- A head can begin with the plan of a message: all costs are there, and the plan is of the job and does not name it.
-pub record Beginnable {S : Type 0} (j : Job) (costs : List S) (m : Message S) : Type 0 where
-  pub room : 1792 ≤ length costs
+-- A head can begin with the plan of a message: the plan is of the job and does not name it.
+pub record Beginnable {S : Type 0} (j : Job) (m : Message S) : Type 0 where
   pub head : is_head j m.to ≡ true
   pub of_job : is_of_job j m.plan ≡ true
   pub free : named m.plan m.to ≡ false
@@ -83,8 +78,7 @@ abbrev pub quiet_turn : {S : Type 0} → Record S → Turn S
 quiet_turn r = record { known = r; home = false; lost = false }
 
 -- A message fits the job and its record; whether the state is right is left to see. Its search is out where that is asked.
-pub record Fitting {S : Type 0} (j : Job) (costs : List S) (r : Record S) (m : Message S) : Type 0 where
-  pub room : 1792 ≤ length costs
+pub record Fitting {S : Type 0} (j : Job) (r : Record S) (m : Message S) : Type 0 where
   pub addressed : is_addressed j m ≡ true
   pub sound : is_sound j m.to r ≡ true
   pub due_so : (out : Bool) × (due j m.kind out r m ≡ true)

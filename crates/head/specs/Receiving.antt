@@ -97,12 +97,11 @@ module _ {S : Type 0} (s : Operations S) where
     owes : {o : OwedReport} {l' : Lent S} {m : Message S} → Enough l → m.kind ≡ Request → is_due out l m ≡ true → o ≡ owed_for m → OnlyTaken l m l' → Receives out l place (Ok (Owes o)) l' m
     acts : {kind : Kind} {home lost : Bool} {l' : Lent S} {m : Message S} → Enough l → (m.kind ≢ Request) → kind ≡ m.kind → Acts out l m (λ _. []) home lost l' → Receives out l place (Ok (Done kind home lost)) l' m
 
--- An addressed message, and all the memory that its head asks for.
-pub record Placed {S : Type 0} (j : Job) (costs : List S) (records : List (Record S)) (bests : List (Best S)) (m : Message S) : Type 0 where
+-- An addressed message, and all the records and bests that its head asks for.
+pub record Placed {S : Type 0} (j : Job) (records : List (Record S)) (bests : List (Best S)) (m : Message S) : Type 0 where
   pub addressed : is_addressed j m ≡ true
   pub some_head : 1 ≤ m.to
   pub few_heads : m.to ≤ 8
   pub few_searches : m.search < 8
   pub enough_records : 64 ≤ length records
   pub enough_bests : 8 ≤ length bests
-  pub enough_costs : 1792 ≤ length costs

@@ -6,12 +6,11 @@ use Rattle.job.specs.declared.plan.Plan.{Plan}
 use Rattle.job.specs.Lists.{every}
 use Rattle.job.specs.Plans.{setups, empty, name, unnamed_heads}
 use Rattle.problem.specs.Costs.{bound}
-use Rattle.link.specs.declared.heads.HeadSet.{HeadSet}
 use Rattle.link.specs.declared.message.Kind.{Kind}
 use Rattle.link.specs.declared.message.Kind.TheVariants.{Request, Report, Plan as PlanMessage, Return, Notice, Stop}
 use Rattle.link.specs.declared.message.Message.{Message}
 use Rattle.link.specs.Messages.{message}
-use Rattle.link.specs.HeadSets.{has_head, with_head, heads_in}
+use Rattle.link.specs.HeadSets.{HeadSet, has_head, with_head, heads_in}
 use Rattle.head.specs.declared.record.State.{State}
 use Rattle.head.specs.declared.record.State.TheVariants.{Gathering, Below}
 use Rattle.head.specs.declared.record.Record.{Record}

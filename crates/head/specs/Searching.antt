@@ -12,9 +12,8 @@ use Rattle.link.specs.declared.message.Message.{Message}
 use Rattle.link.specs.Messages.{message}
 use Rattle.link.specs.HeadSets.{no_heads}
 use Rattle.head.specs.declared.record.State.TheVariants.{Gathering}
-use Rattle.head.specs.declared.setups.SetupSet.{SetupSet}
 use Rattle.head.specs.declared.best.Best.{Best}
-use Rattle.head.specs.SetupSets.{without_setup, members}
+use Rattle.head.specs.SetupSets.{SetupSet, without_setup, members}
 use Rattle.head.specs.Bests.{hopeless}
 use Rattle.head.specs.Views.{View, rests, shows}
 

@@ -3,15 +3,11 @@ use Rattle.std.specs.Prelude.{ℕ, List, map}
 use Rattle.job.specs.declared.job.Job.{Job}
 use Rattle.job.specs.Lists.{those}
 use Rattle.job.specs.Plans.{heads}
-use Rattle.link.specs.declared.heads.HeadSet.{HeadSet}
 use Rattle.link.specs.declared.message.Message.{Message}
-use Rattle.link.specs.Messages.{message}
-use Rattle.link.specs.HeadSets.{has_head}
+use Rattle.link.specs.Messages.{addressed}
+use Rattle.link.specs.HeadSets.{HeadSet, has_head}
 
--- the message to head h in place of the head that it goes to, and to each of some heads, in their order
-abbrev pub addressed : {S : Type 0} → Message S → ℕ → Message S
-addressed m h = message m.kind h m.from m.search m.plan m.cost
-
+-- the message to each of some heads, in their order
 abbrev pub to_each : {S : Type 0} → Message S → List ℕ → List (Message S)
 to_each m hs = map (addressed m) hs
 

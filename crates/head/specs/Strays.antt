@@ -5,16 +5,14 @@ use Rattle.job.specs.declared.job.Job.{Job}
 use Rattle.job.specs.declared.plan.Plan.{Plan}
 use Rattle.job.specs.Lists.{every}
 use Rattle.job.specs.Plans.{setups, is_head, is_setup, named, is_complete, is_empty, is_of_job}
-use Rattle.link.specs.declared.heads.HeadSet.{HeadSet}
 use Rattle.link.specs.declared.message.Kind.{Kind}
 use Rattle.link.specs.declared.message.Kind.TheVariants.{Request, Report, Plan as PlanMessage, Return, Notice, Stop}
 use Rattle.link.specs.declared.message.Message.{Message}
-use Rattle.link.specs.HeadSets.{has_head}
+use Rattle.link.specs.HeadSets.{HeadSet, has_head}
 use Rattle.head.specs.declared.record.State.{State}
 use Rattle.head.specs.declared.record.State.TheVariants.{Resting, Gathering, Below}
 use Rattle.head.specs.declared.record.Record.{Record}
-use Rattle.head.specs.declared.setups.SetupSet.{SetupSet}
-use Rattle.head.specs.SetupSets.{has_setup}
+use Rattle.head.specs.SetupSets.{SetupSet, has_setup}
 use Rattle.head.specs.Replies.{on_trial}
 
 -- whether a message of this kind may find the record in this state

@@ -1,13 +1,12 @@
 // Reports that are owed.
 ghost use Rattle.head.specs.Owing.{Reports};
 
-use job::job::Job;
 use job::plan::Plan;
 use job::refusal::Refusal;
 use link::link::Link;
 use link::message::{Kind, Message};
 use link::sending::send;
-use problem::price::bound;
+use problem::price::Problem;
 use scale::scale::Scale;
 
 // A report that a head owes, since it took a request: to which head, from which, in which search, and for which plan. It is neither
@@ -23,11 +22,10 @@ pub struct OwedReport {
 // where the link is full; the report is lost then.
 pub fn post_report<S: Scale, L: Link<Message<S>>>(
     owed: OwedReport,
-    job: &Job,
+    problem: &Problem<S>,
     link: &mut L,
-    costs: &[S],
 ) -> Result<(), Refusal>
-    ensures { Reports S.Scale.scale job.now costs.now owed (L.Link.limit link.old) (L.Link.bag link.old) result (L.Link.limit link.new) (L.Link.bag link.new) }
+    ensures { Reports S.Scale.scale problem.now.job.now problem.now.costs.now owed (L.Link.limit link.old) (L.Link.bag link.old) result (L.Link.limit link.new) (L.Link.bag link.new) }
 {
     let OwedReport {
         to,
@@ -35,18 +33,16 @@ pub fn post_report<S: Scale, L: Link<Message<S>>>(
         search,
         plan,
     } = owed;
-    match bound(job, costs, from, &plan) {
-        Ok(cost) => send(
-            link,
-            Message {
-                kind: Kind::Report,
-                to,
-                from,
-                search,
-                plan: Plan::empty(),
-                cost,
-            },
-        ),
-        Err(refusal) => Err(refusal),
-    }
+    let cost = problem.bound(from, &plan)?;
+    send(
+        link,
+        Message {
+            kind: Kind::Report,
+            to,
+            from,
+            search,
+            plan: Plan::empty(),
+            cost,
+        },
+    )
 }

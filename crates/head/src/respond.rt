@@ -10,6 +10,7 @@ ghost use Rattle.head.specs.Readiness.{Actable, Goes, Beginnable, quiet_turn, Fi
 use crate::best::Best;
 use crate::record::{Record, State};
 use crate::search::{Turn, search_on};
+use crate::seat::Seat;
 use crate::sending::unnamed;
 use crate::setups::SetupSet;
 use job::job::Job;
@@ -19,38 +20,37 @@ use link::link::Link;
 use link::message::{Kind, Message};
 use link::picker::Picker;
 use link::sending::send;
+use problem::price::Prices;
 use scale::scale::Scale;
 
 // Whether every head that a plan does not name was heard.
 fn has_heard_all(job: &Job, plan: &Plan, heard: &HeadSet) -> bool
     ensures { result ≡ every (has_head heard.now) (unnamed_heads job.now plan.now) }
 {
-    for h in 1..job.heads() + 1 {
-        if !plan.names(h) && !heard.has(h) {
-            return false;
-        }
-    }
-    true
+    (1..=job.heads()).all(|h| plan.names(h) || heard.has(h))
 }
 
 // A report: its bound is joined to the gathered one. When none is missing, the setup is given up where the best is at most what the
 // plan will cost at least, and else the plan is handed on to the head that the picker picks.
 fn hear<S: Scale, L: Link<Message<S>>, P: Picker>(
-    job: &Job,
+    prices: &Prices<S>,
     link: &mut L,
     picker: &mut P,
-    costs: &[S],
     known: &Record<S>,
     best: &mut Best<S>,
     message: &Message<S>,
 ) -> Turn<S>
-    requires { Actable job.now costs.now message.now.to known.now }
-    ensures { Goes S.Scale.scale job.now costs.now known.now message.now best.old Report (L.Link.limit link.old) (L.Link.bag link.old) result best.new (L.Link.limit link.new) (L.Link.bag link.new) }
+    requires { Actable prices.now.job.now message.now.to known.now }
+    ensures { Goes S.Scale.scale prices.now.job.now prices.now.costs.now known.now message.now best.old Report (L.Link.limit link.old) (L.Link.bag link.old) result best.new (L.Link.limit link.new) (L.Link.bag link.new) }
 {
-    let plan = known.received.name(message.to, known.setup);
+    let seat = Seat {
+        head: message.to,
+        search: message.search,
+    };
+    let plan = known.received.name(seat.head, known.setup);
     let gathered = known.gathered.join(message.cost);
     let heard = known.heard.with(message.from);
-    if !has_heard_all(job, &plan, &heard) {
+    if !has_heard_all(prices.job, &plan, &heard) {
         return Turn {
             known: Record {
                 state: State::Gathering,
@@ -63,17 +63,10 @@ fn hear<S: Scale, L: Link<Message<S>>, P: Picker>(
         };
     }
     if best.gives_up(known.trial.join(gathered)) {
-        return search_on(job, link, costs, message.to, message.search, known, best);
+        return search_on(prices, link, seat, known, best);
     }
-    let picked = picker.pick(unnamed(job, &plan));
-    let hands_on = Message {
-        kind: Kind::Plan,
-        to: picked,
-        from: message.to,
-        search: message.search,
-        plan,
-        cost: known.trial,
-    };
+    let picked = picker.pick(unnamed(prices.job, &plan));
+    let hands_on = seat.message(Kind::Plan, picked, plan, known.trial);
     Turn {
         known: Record {
             state: State::Below,
@@ -88,41 +81,46 @@ fn hear<S: Scale, L: Link<Message<S>>, P: Picker>(
 
 // A plan message: the record takes it, and the head searches on from setup 0.
 fn begin<S: Scale, L: Link<Message<S>>>(
-    job: &Job,
+    prices: &Prices<S>,
     link: &mut L,
-    costs: &[S],
     known: &Record<S>,
     best: &mut Best<S>,
     message: &Message<S>,
 ) -> Turn<S>
-    requires { Beginnable job.now costs.now message.now }
-    ensures { Goes S.Scale.scale job.now costs.now known.now message.now best.old PlanMessage (L.Link.limit link.old) (L.Link.bag link.old) result best.new (L.Link.limit link.new) (L.Link.bag link.new) }
+    requires { Beginnable prices.now.job.now message.now }
+    ensures { Goes S.Scale.scale prices.now.job.now prices.now.costs.now known.now message.now best.old PlanMessage (L.Link.limit link.old) (L.Link.bag link.old) result best.new (L.Link.limit link.new) (L.Link.bag link.new) }
 {
     let taken = Record {
         received: message.plan,
         cost: message.cost,
         sender: message.from,
-        untried: SetupSet::below(job.setups(message.to)),
+        untried: SetupSet::below(prices.job.setups(message.to)),
         ..*known
     };
-    search_on(job, link, costs, message.to, message.search, &taken, best)
+    let seat = Seat {
+        head: message.to,
+        search: message.search,
+    };
+    search_on(prices, link, seat, &taken, best)
 }
 
 // A return: a lower cost replaces best and plan, and the head searches on.
 fn resume<S: Scale, L: Link<Message<S>>>(
-    job: &Job,
+    prices: &Prices<S>,
     link: &mut L,
-    costs: &[S],
     known: &Record<S>,
     best: &mut Best<S>,
     message: &Message<S>,
 ) -> Turn<S>
-    requires { Actable job.now costs.now message.now.to known.now }
-    ensures { Goes S.Scale.scale job.now costs.now known.now message.now best.old Return (L.Link.limit link.old) (L.Link.bag link.old) result best.new (L.Link.limit link.new) (L.Link.bag link.new) }
+    requires { Actable prices.now.job.now message.now.to known.now }
+    ensures { Goes S.Scale.scale prices.now.job.now prices.now.costs.now known.now message.now best.old Return (L.Link.limit link.old) (L.Link.bag link.old) result best.new (L.Link.limit link.new) (L.Link.bag link.new) }
 {
-    let adopted = best.adopted(carried_by(message));
-    *best = adopted;
-    search_on(job, link, costs, message.to, message.search, known, best)
+    *best = best.adopted(carried_by(message));
+    let seat = Seat {
+        head: message.to,
+        search: message.search,
+    };
+    search_on(prices, link, seat, known, best)
 }
 
 // The plan and cost that a message carries.
@@ -159,27 +157,25 @@ pub enum Deed<S> {
 
 // What the head does, by the state of its record and the kind of the message.
 pub(crate) fn act<S: Scale, L: Link<Message<S>>, P: Picker>(
-    job: &Job,
+    prices: &Prices<S>,
     link: &mut L,
     picker: &mut P,
-    costs: &[S],
     known: &Record<S>,
     best: &mut Best<S>,
     message: &Message<S>,
 ) -> Deed<S>
-    requires { Fitting job.now costs.now known.now message.now }
-    ensures { Chooses S.Scale.scale job.now costs.now known.now message.now best.old (L.Link.limit link.old) (L.Link.bag link.old) result best.new (L.Link.limit link.new) (L.Link.bag link.new) }
+    requires { Fitting prices.now.job.now known.now message.now }
+    ensures { Chooses S.Scale.scale prices.now.job.now prices.now.costs.now known.now message.now best.old (L.Link.limit link.old) (L.Link.bag link.old) result best.new (L.Link.limit link.new) (L.Link.bag link.new) }
 {
     match (known.state, message.kind) {
         (_, Kind::Request) => Deed::Owes,
         (State::Gathering, Kind::Report) => {
-            Deed::Goes(hear(job, link, picker, costs, known, best, message))
+            Deed::Goes(hear(prices, link, picker, known, best, message))
         }
-        (State::Resting, Kind::Plan) => Deed::Goes(begin(job, link, costs, known, best, message)),
-        (State::Below, Kind::Return) => Deed::Goes(resume(job, link, costs, known, best, message)),
+        (State::Resting, Kind::Plan) => Deed::Goes(begin(prices, link, known, best, message)),
+        (State::Below, Kind::Return) => Deed::Goes(resume(prices, link, known, best, message)),
         (_, Kind::Notice) => {
-            let adopted = best.adopted(carried_by(message));
-            *best = adopted;
+            *best = best.adopted(carried_by(message));
             Deed::Goes(quiet(known))
         }
         (_, Kind::Stop) => {

@@ -6,19 +6,19 @@ ghost use Rattle.link.specs.Messages.{message as message_of};
 ghost use Rattle.link.specs.Posting.{Sent};
 ghost use Rattle.head.specs.Searching.{others as other_heads, search_on};
 ghost use Rattle.head.specs.Replies.{task};
-ghost use Rattle.head.specs.Readiness.{Ready, with_trial, Gathers, ComesBack, Searches};
+ghost use Rattle.head.specs.Readiness.{Ready, Gathers, ComesBack, Searches};
 
 use crate::best::Best;
 use crate::record::{Record, State};
+use crate::seat::Seat;
 use crate::sending::{others, send_each, unnamed};
-use crate::setups::SetupSet;
 use job::job::Job;
 use job::plan::Plan;
 use link::heads::HeadSet;
 use link::link::Link;
 use link::message::{Kind, Message};
 use link::sending::send;
-use problem::price::against_known;
+use problem::price::Prices;
 use scale::scale::Scale;
 
 // What a head's act comes to, besides its best: its record, whether the search came home, and whether a message was lost.
@@ -30,52 +30,26 @@ pub struct Turn<S> {
 }
 
 // Tells every other head of a complete plan. Notices are dropped where too many messages wait, and never lost.
-fn notify<S: Scale, L: Link<Message<S>>>(
-    job: &Job,
-    link: &mut L,
-    head: u8,
-    search: u8,
-    found: Best<S>,
-)
-    ensures { Sent (L.Link.limit link.old) (L.Link.bag link.old) (map (λ g. message_of Notice g head search found.plan found.cost) (other_heads job.now head)) false (L.Link.limit link.new) (L.Link.bag link.new) }
+fn notify<S: Scale, L: Link<Message<S>>>(job: &Job, link: &mut L, seat: Seat, found: Best<S>)
+    ensures { Sent (L.Link.limit link.old) (L.Link.bag link.old) (map (λ g. message_of Notice g seat.head seat.search found.plan found.cost) (other_heads job.now seat.head)) false (L.Link.limit link.new) (L.Link.bag link.new) }
 {
     let _ = send_each(
         job,
         link,
-        others(job, head),
-        Message {
-            kind: Kind::Notice,
-            to: head,
-            from: head,
-            search,
-            plan: found.plan,
-            cost: found.cost,
-        },
+        others(job, seat.head),
+        seat.message(Kind::Notice, seat.head, found.plan, found.cost),
     );
 }
 
 // Asks every head that a plan does not name for its bound. Answers whether a request was lost.
-fn ask<S: Scale, L: Link<Message<S>>>(
-    job: &Job,
-    link: &mut L,
-    head: u8,
-    search: u8,
-    plan: Plan,
-) -> bool
-    ensures { Sent (L.Link.limit link.old) (L.Link.bag link.old) (map (λ g. message_of Request g head search plan S.Scale.scale.nothing) (unnamed_heads job.now plan)) result (L.Link.limit link.new) (L.Link.bag link.new) }
+fn ask<S: Scale, L: Link<Message<S>>>(job: &Job, link: &mut L, seat: Seat, plan: Plan) -> bool
+    ensures { Sent (L.Link.limit link.old) (L.Link.bag link.old) (map (λ g. message_of Request g seat.head seat.search plan S.Scale.scale.nothing) (unnamed_heads job.now plan)) result (L.Link.limit link.new) (L.Link.bag link.new) }
 {
     send_each(
         job,
         link,
         unnamed(job, &plan),
-        Message {
-            kind: Kind::Request,
-            to: head,
-            from: head,
-            search,
-            plan,
-            cost: S::nothing(),
-        },
+        seat.message(Kind::Request, seat.head, plan, S::nothing()),
     )
 }
 
@@ -83,19 +57,12 @@ fn ask<S: Scale, L: Link<Message<S>>>(
 fn gather<S: Scale, L: Link<Message<S>>>(
     job: &Job,
     link: &mut L,
-    head: u8,
-    search: u8,
+    seat: Seat,
     known: Record<S>,
 ) -> Turn<S>
-    ensures { Gathers S.Scale.scale job.now head search known (L.Link.limit link.old) (L.Link.bag link.old) result (L.Link.limit link.new) (L.Link.bag link.new) }
+    ensures { Gathers S.Scale.scale job.now seat.head seat.search known (L.Link.limit link.old) (L.Link.bag link.old) result (L.Link.limit link.new) (L.Link.bag link.new) }
 {
-    let lost = ask(
-        job,
-        link,
-        head,
-        search,
-        known.received.name(head, known.setup),
-    );
+    let lost = ask(job, link, seat, known.received.name(seat.head, known.setup));
     Turn {
         known: Record {
             state: State::Gathering,
@@ -111,32 +78,24 @@ fn gather<S: Scale, L: Link<Message<S>>>(
 // After the last setup: the record rests, and the head that sent the plan is told the best; at head 1 the search is home instead.
 fn come_back<S: Scale, L: Link<Message<S>>>(
     link: &mut L,
-    head: u8,
-    search: u8,
+    seat: Seat,
     known: &Record<S>,
     best: &Best<S>,
 ) -> Turn<S>
-    ensures { ComesBack head search known.now best.now (L.Link.limit link.old) (L.Link.bag link.old) result (L.Link.limit link.new) (L.Link.bag link.new) }
+    ensures { ComesBack seat.head seat.search known.now best.now (L.Link.limit link.old) (L.Link.bag link.old) result (L.Link.limit link.new) (L.Link.bag link.new) }
 {
     let rested = Record {
         state: State::Resting,
         ..*known
     };
-    if head == 1 {
+    if seat.head == 1 {
         return Turn {
             known: rested,
             home: true,
             lost: false,
         };
     }
-    let message = Message {
-        kind: Kind::Return,
-        to: known.sender,
-        from: head,
-        search,
-        plan: best.plan,
-        cost: best.cost,
-    };
+    let message = seat.message(Kind::Return, known.sender, best.plan, best.cost);
     Turn {
         known: rested,
         home: false,
@@ -144,53 +103,38 @@ fn come_back<S: Scale, L: Link<Message<S>>>(
     }
 }
 
-// The record with another setup on trial, what the plan costs with it, and the setups that are left then.
-fn on_trial<S: Scale>(known: &Record<S>, setup: u8, trial: S, untried: SetupSet) -> Record<S>
-    ensures { result ≡ with_trial known.now setup trial untried }
-{
-    Record {
-        setup,
-        trial,
-        untried,
-        ..*known
-    }
-}
-
 // Tries the setups that are left, the lowest first, until the others have to be asked or none is left. Public only for the crate of
 // runs, which begins the searches and shows that head 1 can.
 pub fn search_on<S: Scale, L: Link<Message<S>>>(
-    job: &Job,
+    prices: &Prices<S>,
     link: &mut L,
-    costs: &[S],
-    head: u8,
-    search: u8,
+    seat: Seat,
     known: &Record<S>,
     best: &mut Best<S>,
 ) -> Turn<S>
-    requires { Ready job.now costs.now head known.now.received known.now.untried }
-    ensures { Searches (search_on S.Scale.scale job.now costs.now head search (task known.now) known.now.untried best.old) (L.Link.limit link.old) (L.Link.bag link.old) result best.new (L.Link.limit link.new) (L.Link.bag link.new) }
+    requires { Ready prices.now.job.now seat.head known.now.received known.now.untried }
+    ensures { Searches (search_on S.Scale.scale prices.now.job.now prices.now.costs.now seat.head seat.search (task known.now) known.now.untried best.old) (L.Link.limit link.old) (L.Link.bag link.old) result best.new (L.Link.limit link.new) (L.Link.bag link.new) }
 {
-    let received = known.received;
-    let cost = known.cost;
     let mut untried = known.untried;
     while let Some(setup) = untried.lowest() {
         untried = untried.without(setup);
-        let trial = cost.join(against_known(job, costs, head, setup, &received));
+        let trial = known
+            .cost
+            .join(prices.against(seat.head, setup, &known.received));
         if best.gives_up(trial) {
             continue;
         }
-        let plan = received.name(head, setup);
-        if !job.is_complete(&plan) {
+        let plan = known.received.name(seat.head, setup);
+        if !prices.job.is_complete(&plan) {
             return gather(
-                job,
+                prices.job,
                 link,
-                head,
-                search,
-                on_trial(known, setup, trial, untried),
+                seat,
+                known.on_trial(setup, trial, untried),
             );
         }
         *best = Best { cost: trial, plan };
-        notify(job, link, head, search, *best);
+        notify(prices.job, link, seat, *best);
     }
-    come_back(link, head, search, known, best)
+    come_back(link, seat, known, best)
 }

@@ -4,7 +4,7 @@ ghost use Rattle.job.specs.Plans.{unnamed_heads};
 ghost use Rattle.link.specs.HeadSets.{heads_in};
 ghost use Rattle.link.specs.Posting.{Sent};
 ghost use Rattle.head.specs.Searching.{others as other_heads};
-ghost use Rattle.head.specs.Sendings.{addressed as message_to, to_each, heads_of};
+ghost use Rattle.head.specs.Sendings.{to_each, heads_of};
 
 use job::job::Job;
 use job::plan::Plan;
@@ -18,40 +18,18 @@ use scale::scale::Scale;
 pub(crate) fn unnamed(job: &Job, plan: &Plan) -> HeadSet
     ensures { result ≡ heads_in (unnamed_heads job.now plan.now) }
 {
-    let mut heads = HeadSet::empty();
-    for h in (1..job.heads() + 1).rev() {
-        if !plan.names(h) {
-            heads = heads.with(h);
-        }
-    }
-    heads
+    (1..=job.heads())
+        .filter(|h| !plan.names(*h))
+        .fold(HeadSet::empty(), HeadSet::with)
 }
 
 // The heads of the job but one.
 pub fn others(job: &Job, head: u8) -> HeadSet
     ensures { result ≡ heads_in (other_heads job.now head) }
 {
-    let mut heads = HeadSet::empty();
-    for h in (1..job.heads() + 1).rev() {
-        if h != head {
-            heads = heads.with(h);
-        }
-    }
-    heads
-}
-
-// The message to another head.
-fn addressed<S: Scale>(message: &Message<S>, head: u8) -> Message<S>
-    ensures { result ≡ message_to message.now head }
-{
-    Message {
-        kind: message.kind,
-        to: head,
-        from: message.from,
-        search: message.search,
-        plan: message.plan,
-        cost: message.cost,
-    }
+    (1..=job.heads())
+        .filter(|h| *h != head)
+        .fold(HeadSet::empty(), HeadSet::with)
 }
 
 // Sends a message to each of some heads of the job, ascending. Answers whether one was lost; the rest are sent all the same.
@@ -64,9 +42,9 @@ pub fn send_each<S: Scale, L: Link<Message<S>>>(
     ensures { Sent (L.Link.limit link.old) (L.Link.bag link.old) (to_each message (heads_of job.now heads)) result (L.Link.limit link.new) (L.Link.bag link.new) }
 {
     let mut lost = false;
-    for h in 1..job.heads() + 1 {
+    for h in 1..=job.heads() {
         if heads.has(h) {
-            lost |= send(link, addressed(&message, h)).is_err();
+            lost |= send(link, message.addressed(h)).is_err();
         }
     }
     lost

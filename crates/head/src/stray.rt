@@ -25,24 +25,14 @@ pub(crate) fn is_addressed<S: Scale>(job: &Job, message: &Message<S>) -> bool
 fn has_own_setups(job: &Job, head: u8, untried: &SetupSet) -> bool
     ensures { result ≡ untried_fit job.now head untried.now }
 {
-    for i in 0..8u8 {
-        if untried.has(i) && i >= job.setups(head) {
-            return false;
-        }
-    }
-    true
+    (0..8u8).all(|i| !untried.has(i) || i < job.setups(head))
 }
 
 // Whether all heads that were heard are heads of the job.
 fn has_own_heads(job: &Job, heard: &HeadSet) -> bool
     ensures { result ≡ heard_fit job.now heard.now }
 {
-    for h in 1..9u8 {
-        if heard.has(h) && job.setups(h) < 1 {
-            return false;
-        }
-    }
-    true
+    (1..=8u8).all(|h| !heard.has(h) || job.setups(h) >= 1)
 }
 
 // Whether the sender is another head of the job; at head 1 it may also be nobody.
@@ -68,11 +58,7 @@ fn is_in_range<S: Scale>(job: &Job, head: u8, known: &Record<S>) -> bool
 pub(crate) fn is_sound<S: Scale>(job: &Job, head: u8, known: &Record<S>) -> bool
     ensures { result ≡ sound_record job.now head known.now }
 {
-    match known.state {
-        State::Resting => true,
-        State::Gathering => is_in_range(job, head, known),
-        State::Below => is_in_range(job, head, known),
-    }
+    known.state == State::Resting || is_in_range(job, head, known)
 }
 
 // Whether a plan may stand in a best: it is complete or empty.

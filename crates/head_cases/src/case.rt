@@ -2,32 +2,26 @@
 use head::record::State;
 use link::message::Kind;
 
-// in a plan, no setup for a head
-pub(crate) const NONE: u8 = 255;
-
-// never; as a head's best, that it has none
-pub(crate) const NEVER: u32 = 1_000_000_000;
-
 // One message to one head, and what there is before it comes.
 #[derive(Clone, Copy)]
 pub(crate) struct Case {
     // what the case shows, where its state and kind do not say it
     pub(crate) note: &'static str,
-    // the head's record of the search: its state, the setup on trial, one head that was heard, 0 for none, and the bound gathered
+    // the head's record of the search: its state, the setup on trial, one head that was heard, and the bound gathered
     pub(crate) state: State,
     pub(crate) setup: u8,
-    pub(crate) heard: u8,
+    pub(crate) heard: Option<u8>,
     pub(crate) gathered: u32,
     // what the best costs that the head knows of
-    pub(crate) best: u32,
-    // the message, its plan for the first three heads
+    pub(crate) best: Option<u32>,
+    // the message, its plan for the first three heads, and its cost if that is not never
     pub(crate) kind: Kind,
     pub(crate) from: u8,
     pub(crate) to: u8,
     pub(crate) search: u8,
-    pub(crate) plan: [u8; 3],
-    pub(crate) minutes: u32,
-    // which searches are out, by bits
+    pub(crate) plan: [Option<u8>; 3],
+    pub(crate) minutes: Option<u32>,
+    // which searches are out, by bits, as `receive` takes them
     pub(crate) out: u8,
     // how many messages the link can hold, at most 64
     pub(crate) places: usize,
@@ -40,16 +34,16 @@ pub(crate) const REQUEST: Case = Case {
     note: "",
     state: State::Resting,
     setup: 0,
-    heard: 0,
+    heard: None,
     gathered: 0,
-    best: 211,
+    best: Some(211),
     kind: Kind::Request,
     from: 1,
     to: 2,
     search: 0,
-    plan: [0, NONE, NONE],
-    minutes: 0,
-    out: 1,
+    plan: [Some(0), None, None],
+    minutes: Some(0),
+    out: 0b01,
     places: 64,
     again: false,
 };
@@ -57,8 +51,8 @@ pub(crate) const REQUEST: Case = Case {
 pub(crate) const REPORT: Case = Case {
     kind: Kind::Report,
     from: 3,
-    plan: [NONE, NONE, NONE],
-    minutes: 120,
+    plan: [None, None, None],
+    minutes: Some(120),
     ..REQUEST
 };
 
@@ -70,22 +64,22 @@ pub(crate) const PLAN: Case = Case {
 pub(crate) const RETURN: Case = Case {
     kind: Kind::Return,
     from: 3,
-    plan: [0, 0, 0],
-    minutes: 123,
+    plan: [Some(0), Some(0), Some(0)],
+    minutes: Some(123),
     ..REQUEST
 };
 
 pub(crate) const NOTICE: Case = Case {
     kind: Kind::Notice,
     from: 3,
-    plan: [1, 0, 0],
-    minutes: 142,
+    plan: [Some(1), Some(0), Some(0)],
+    minutes: Some(142),
     ..REQUEST
 };
 
 pub(crate) const STOP: Case = Case {
     kind: Kind::Stop,
-    plan: [1, 1, 1],
-    minutes: 234,
+    plan: [Some(1), Some(1), Some(1)],
+    minutes: Some(234),
     ..REQUEST
 };

@@ -4,7 +4,6 @@
 
 mod answers;
 mod case;
-mod failure;
 mod plans;
 mod run;
 mod start;
@@ -13,7 +12,6 @@ mod words;
 
 use answers::ANSWERS;
 use case::{Case, NOTICE, PLAN, REPORT, REQUEST, RETURN, STOP};
-use failure::Failure;
 use head::record::State;
 use job::job::Job;
 use plans::PLANS;
@@ -29,7 +27,7 @@ const STATES: [State; 3] = [State::Resting, State::Gathering, State::Below];
 
 const KINDS: [Case; 6] = [REQUEST, REPORT, PLAN, RETURN, NOTICE, STOP];
 
-fn each_state_and_kind(rt: &HostRuntime, job: &Job, costs: &[Minutes]) -> Result<(), Failure> {
+fn each_state_and_kind(rt: &HostRuntime, job: &Job, costs: &[Minutes]) -> anyhow::Result<()> {
     println!(rt; "Each state of the record, each kind of message:")?;
     for state in STATES {
         for case in KINDS {
@@ -45,7 +43,7 @@ fn each_of(
     job: &Job,
     costs: &[Minutes],
     cases: &[Case],
-) -> Result<(), Failure> {
+) -> anyhow::Result<()> {
     println!(rt; "{title}:")?;
     for case in cases {
         run(rt, job, costs, case)?;
@@ -53,7 +51,7 @@ fn each_of(
     Ok(())
 }
 
-fn all(rt: &HostRuntime) -> Result<(), Failure> {
+fn all(rt: &HostRuntime) -> anyhow::Result<()> {
     let job = Job::new(&[2, 2, 2])?;
     let mut costs = [Minutes::nothing(); PLACES];
     lay_out(&mut costs);
@@ -69,6 +67,7 @@ fn all(rt: &HostRuntime) -> Result<(), Failure> {
     )
 }
 
+// A failure ends the program with status 1 and prints nothing; an error that `main` answers would be printed.
 fn main(rt: HostRuntime) -> ExitCode {
     match all(&rt) {
         Ok(()) => ExitCode::SUCCESS,

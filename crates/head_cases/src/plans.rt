@@ -1,26 +1,26 @@
 // Plans that are handed on and come back, notices and stops.
-use crate::case::{Case, NEVER, NONE, NOTICE, PLAN, RETURN, STOP};
+use crate::case::{Case, NOTICE, PLAN, RETURN, STOP};
 use head::record::State;
 
 // A plan that names nobody, so that head 2 asks both others.
 const TWO_TO_ASK: Case = Case {
     note: "two to ask",
-    plan: [NONE, NONE, NONE],
+    plan: [None, None, None],
     ..PLAN
 };
 
 // A plan that head 3 completes.
 const FOUND: Case = Case {
     note: "plan found",
-    best: NEVER,
+    best: None,
     from: 2,
     to: 3,
-    plan: [0, 0, NONE],
-    minutes: 3,
+    plan: [Some(0), Some(0), None],
+    minutes: Some(3),
     ..PLAN
 };
 
-pub(crate) const PLANS: [Case; 12] = [
+pub(crate) static PLANS: [Case; 12] = [
     TWO_TO_ASK,
     Case {
         note: "a message lost",
@@ -30,13 +30,13 @@ pub(crate) const PLANS: [Case; 12] = [
     FOUND,
     Case {
         note: "two found",
-        plan: [0, 1, NONE],
-        minutes: 1,
+        plan: [Some(0), Some(1), None],
+        minutes: Some(1),
         ..FOUND
     },
     Case {
         note: "none worth it",
-        best: 123,
+        best: Some(123),
         ..FOUND
     },
     Case {
@@ -59,27 +59,27 @@ pub(crate) const PLANS: [Case; 12] = [
     Case {
         note: "nothing found",
         state: State::Below,
-        best: NEVER,
-        plan: [NONE, NONE, NONE],
-        minutes: NEVER,
+        best: None,
+        plan: [None, None, None],
+        minutes: None,
         ..RETURN
     },
     Case {
         note: "no better",
         state: State::Below,
         setup: 1,
-        best: 100,
+        best: Some(100),
         ..RETURN
     },
     Case {
         note: "no better",
-        best: 123,
+        best: Some(123),
         ..NOTICE
     },
     Case {
         note: "nothing found",
-        plan: [NONE, NONE, NONE],
-        minutes: NEVER,
+        plan: [None, None, None],
+        minutes: None,
         ..STOP
     },
 ];

@@ -1,11 +1,11 @@
 // Running a case.
 use crate::case::Case;
-use crate::failure::Failure;
 use crate::start::{best, known, message};
-use crate::words::{Answer, Cost, Title, Words, name_of_state};
+use crate::words::{Acted, Answer, Cost, Title, Words};
 use head::best::Best;
+use head::memory::{BESTS, Memory, RECORDS, ROW};
 use head::owed::post_report;
-use head::receive::{BESTS, RECORDS, ROW, Received, receive};
+use head::receive::{Received, receive};
 use head::record::{Record, State};
 use job::job::Job;
 use job::refusal::Refusal;
@@ -13,6 +13,7 @@ use link::first_in::FirstIn;
 use link::link::Link;
 use link::message::Message;
 use link::picker::Lowest;
+use problem::price::Problem;
 use scale::minutes::Minutes;
 
 // the most messages that the link of a case can hold
@@ -29,7 +30,7 @@ pub(crate) fn run(
     job: &Job,
     costs: &[Minutes],
     case: &Case,
-) -> Result<(), Failure> {
+) -> anyhow::Result<()> {
     let mut places = [message(case); PLACES];
     let room = case.places.min(PLACES);
     let mut link = FirstIn::new(&mut places[..room]);
@@ -38,7 +39,11 @@ pub(crate) fn run(
     let before = known(job, costs, case);
     let mut records = rested(before);
     put(&mut records, spot(case), before);
-    let answer = answered(job, &mut link, costs, &mut records, &mut bests, case);
+    let mut memory = Memory {
+        records: &mut records,
+        bests: &mut bests,
+    };
+    let answer = Answer(acted(&Problem { job, costs }, &mut link, &mut memory, case));
     let title = Title(case);
     print!(rt; "  {title}: {answer}")?;
     show_head(rt, &records, &bests, case)?;
@@ -56,47 +61,28 @@ fn rested(known: Record<Minutes>) -> [Record<Minutes>; RECORDS] {
 
 // Puts a record into its place, if there is one.
 fn put(records: &mut [Record<Minutes>], at: usize, known: Record<Minutes>) {
-    if at < records.len() {
-        records[at] = known;
+    if let Some(record) = records.get_mut(at) {
+        *record = known;
     }
 }
 
 // Lets the head receive the message, and posts the report that it then may owe.
-fn answered<L: Link<Message<Minutes>>>(
-    job: &Job,
+fn acted<L: Link<Message<Minutes>>>(
+    problem: &Problem<Minutes>,
     link: &mut L,
-    costs: &[Minutes],
-    records: &mut [Record<Minutes>],
-    bests: &mut [Best<Minutes>],
+    memory: &mut Memory<Minutes>,
     case: &Case,
-) -> Answer {
+) -> Result<Acted, Refusal> {
     let mut place = message(case);
-    let received = receive(
-        case.out,
-        job,
-        link,
-        &mut Lowest {},
-        costs,
-        records,
-        bests,
-        &mut place,
-    );
+    let received = receive(case.out, problem, link, &mut Lowest {}, memory, &mut place)?;
     match received {
-        Ok(Received::Done { kind, home, lost }) => Answer::Done { kind, home, lost },
-        Ok(Received::Owes(owed)) => {
+        Received::Done { kind, home, lost } => Ok(Acted::Done { kind, home, lost }),
+        Received::Owes(owed) => {
             if case.again {
                 let _ = link.post(place);
             }
-            posted(post_report(owed, job, link, costs))
+            Ok(Acted::Owed(post_report(owed, problem, link)))
         }
-        Err(refusal) => Answer::Refused(refusal),
-    }
-}
-
-fn posted(report: Result<(), Refusal>) -> Answer {
-    match report {
-        Ok(()) => Answer::Posted,
-        Err(refusal) => Answer::NotPosted(refusal),
     }
 }
 
@@ -106,15 +92,13 @@ fn show_head(
     records: &[Record<Minutes>],
     bests: &[Best<Minutes>],
     case: &Case,
-) -> Result<(), Failure> {
-    let at = spot(case);
-    if at < records.len() {
-        let state = name_of_state(records[at].state);
+) -> anyhow::Result<()> {
+    if let Some(known) = records.get(spot(case)) {
+        let state = known.state;
         print!(rt; " | {state}")?;
     }
-    let own = (case.to as usize).saturating_sub(1);
-    if own < bests.len() {
-        let cost = Cost(bests[own].cost);
+    if let Some(best) = bests.get((case.to as usize).saturating_sub(1)) {
+        let cost = Cost(best.cost);
         print!(rt; " | best {cost}")?;
     }
     Ok(())
@@ -125,7 +109,7 @@ fn show_waiting<L: Link<Message<Minutes>>>(
     rt: &HostRuntime,
     link: &mut L,
     mut place: Message<Minutes>,
-) -> Result<(), Failure> {
+) -> anyhow::Result<()> {
     let mut mark = " |";
     let count = link.waiting();
     if count == 0 {

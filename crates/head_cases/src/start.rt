@@ -1,5 +1,5 @@
 // What there is before the message comes: the costs, the head's record and best, and the message.
-use crate::case::{Case, NEVER};
+use crate::case::Case;
 use head::best::Best;
 use head::record::Record;
 use head::setups::SetupSet;
@@ -8,7 +8,7 @@ use job::plan::Plan;
 use link::heads::HeadSet;
 use link::message::Message;
 use problem::place::place;
-use problem::price::against;
+use problem::price::Problem;
 use scale::minutes::Minutes;
 use scale::scale::Scale;
 
@@ -31,24 +31,26 @@ const COSTS: [(u8, u8, u8, u8, u32); 12] = [
 pub(crate) fn lay_out(costs: &mut [Minutes]) {
     for (a, i, b, j, minutes) in COSTS {
         if let Some(at) = place(a, i, b, j) {
-            if at < costs.len() {
-                costs[at] = cost(minutes);
+            if let Some(entry) = costs.get_mut(at) {
+                *entry = Minutes::capped(minutes);
             }
         }
     }
 }
 
-// So many minutes; never past 1,000,000,000.
-fn cost(minutes: u32) -> Minutes {
-    match Minutes::new(minutes) {
-        Some(cost) => cost,
-        None => Minutes::never(),
-    }
+// So many minutes, or never.
+fn cost(minutes: Option<u32>) -> Minutes {
+    minutes.map_or(Minutes::never(), Minutes::capped)
 }
 
-fn plan(setups: [u8; 3]) -> Plan {
-    let [first, second, third] = setups;
-    Plan::empty().name(1, first).name(2, second).name(3, third)
+fn plan(setups: [Option<u8>; 3]) -> Plan {
+    let mut plan = Plan::empty();
+    for (head, setup) in (1..=3).zip(setups) {
+        if let Some(setup) = setup {
+            plan = plan.name(head, setup);
+        }
+    }
+    plan
 }
 
 pub(crate) fn message(case: &Case) -> Message<Minutes> {
@@ -64,12 +66,12 @@ pub(crate) fn message(case: &Case) -> Message<Minutes> {
 
 // Some complete plan at the best's cost, or none.
 pub(crate) fn best(case: &Case) -> Best<Minutes> {
-    if case.best >= NEVER {
-        return Best::none();
-    }
-    Best {
-        cost: cost(case.best),
-        plan: plan([0, 1, 1]),
+    match case.best {
+        Some(minutes) => Best {
+            cost: Minutes::capped(minutes),
+            plan: plan([Some(0), Some(1), Some(1)]),
+        },
+        None => Best::none(),
     }
 }
 
@@ -81,7 +83,7 @@ pub(crate) fn known(job: &Job, costs: &[Minutes], case: &Case) -> Record<Minutes
     } else {
         Plan::empty().name(1, case.search)
     };
-    let trial = against(job, costs, case.to, case.setup, &received);
+    let trial = Problem { job, costs }.against(case.to, case.setup, &received);
     Record {
         state: case.state,
         received,
@@ -94,7 +96,7 @@ pub(crate) fn known(job: &Job, costs: &[Minutes], case: &Case) -> Record<Minutes
         } else {
             SetupSet::only(1)
         },
-        gathered: cost(case.gathered),
-        heard: HeadSet::empty().with(case.heard),
+        gathered: Minutes::capped(case.gathered),
+        heard: case.heard.map_or(HeadSet::empty(), HeadSet::only),
     }
 }

@@ -1,13 +1,13 @@
 // Messages that are stray, each for one reason.
-use crate::case::{Case, NONE, NOTICE, PLAN, REPORT, REQUEST, RETURN, STOP};
+use crate::case::{Case, NOTICE, PLAN, REPORT, REQUEST, RETURN, STOP};
 use head::record::State;
 
 // a plan that names the first two of the three heads, and one that names none
-const PARTIAL: [u8; 3] = [0, 0, NONE];
+const PARTIAL: [Option<u8>; 3] = [Some(0), Some(0), None];
 
-const EMPTY: [u8; 3] = [NONE, NONE, NONE];
+const EMPTY: [Option<u8>; 3] = [None, None, None];
 
-pub(crate) const STRAYS: [Case; 19] = [
+pub(crate) static STRAYS: [Case; 19] = [
     Case {
         note: "heads equal",
         from: 2,
@@ -30,7 +30,7 @@ pub(crate) const STRAYS: [Case; 19] = [
     },
     Case {
         note: "no such setup",
-        plan: [1, 2, 0],
+        plan: [Some(1), Some(2), Some(0)],
         ..NOTICE
     },
     Case {
@@ -42,13 +42,13 @@ pub(crate) const STRAYS: [Case; 19] = [
     Case {
         note: "no such head heard",
         state: State::Gathering,
-        heard: 4,
+        heard: Some(4),
         ..NOTICE
     },
     Case {
         note: "heard twice",
         state: State::Gathering,
-        heard: 2,
+        heard: Some(2),
         from: 2,
         to: 1,
         ..REPORT
@@ -62,13 +62,13 @@ pub(crate) const STRAYS: [Case; 19] = [
     Case {
         note: "search not out",
         state: State::Gathering,
-        out: 2,
+        out: 0b10,
         ..REPORT
     },
     Case {
         note: "search not out",
         state: State::Below,
-        out: 2,
+        out: 0b10,
         ..RETURN
     },
     Case {
@@ -85,7 +85,7 @@ pub(crate) const STRAYS: [Case; 19] = [
         note: "to head 1",
         from: 2,
         to: 1,
-        plan: [NONE, 0, NONE],
+        plan: [None, Some(0), None],
         ..PLAN
     },
     Case {

@@ -1,29 +1,10 @@
 // What is printed of a case, in a short form.
-use crate::case::{Case, NEVER};
-use head::record::State;
+use crate::case::Case;
 use job::refusal::Refusal;
 use link::message::{Kind, Message};
 use scale::minutes::Minutes;
+use scale::scale::Scale;
 use std::fmt;
-
-fn name_of_kind(kind: Kind) -> &'static str {
-    match kind {
-        Kind::Request => "request",
-        Kind::Report => "report",
-        Kind::Plan => "plan",
-        Kind::Return => "return",
-        Kind::Notice => "notice",
-        Kind::Stop => "stop",
-    }
-}
-
-pub(crate) fn name_of_state(state: State) -> &'static str {
-    match state {
-        State::Resting => "resting",
-        State::Gathering => "gathering",
-        State::Below => "below",
-    }
-}
 
 // As "gathering report 3>2", with the note after a comma.
 #[derive(Drop)]
@@ -31,8 +12,8 @@ pub(crate) struct Title<'a>(pub(crate) &'a Case);
 
 impl fmt::Display for Title<'_> {
     fn fmt<W: fmt::Write>(&self, f: &mut fmt::Formatter<W>) -> fmt::Result {
-        let state = name_of_state(self.0.state);
-        let kind = name_of_kind(self.0.kind);
+        let state = self.0.state;
+        let kind = self.0.kind;
         let from = self.0.from;
         let to = self.0.to;
         let note = self.0.note;
@@ -41,31 +22,32 @@ impl fmt::Display for Title<'_> {
     }
 }
 
-// What receiving a message comes to, with the owed report posted.
+// What a head that received a message did: it acted on it, or owed a report, which was posted then or refused.
 #[derive(Drop)]
-pub(crate) enum Answer {
+pub(crate) enum Acted {
     Done { kind: Kind, home: bool, lost: bool },
-    Posted,
-    NotPosted(Refusal),
-    Refused(Refusal),
+    Owed(Result<(), Refusal>),
 }
+
+// What receiving a message comes to.
+#[derive(Drop)]
+pub(crate) struct Answer(pub(crate) Result<Acted, Refusal>);
 
 // As "done return, home", "owes, posted" or "refused 13".
 impl fmt::Display for Answer {
     fn fmt<W: fmt::Write>(&self, f: &mut fmt::Formatter<W>) -> fmt::Result {
-        match self {
-            Answer::Done { kind, home, lost } => {
-                let kind = name_of_kind(*kind);
+        match &self.0 {
+            Ok(Acted::Done { kind, home, lost }) => {
                 let home = if *home { ", home" } else { "" };
                 let lost = if *lost { ", lost" } else { "" };
                 write!(f, "done {kind}{home}{lost}")
             }
-            Answer::Posted => write!(f, "owes, posted"),
-            Answer::NotPosted(refusal) => {
+            Ok(Acted::Owed(Ok(()))) => write!(f, "owes, posted"),
+            Ok(Acted::Owed(Err(refusal))) => {
                 let number = refusal.number();
                 write!(f, "owes, refused {number}")
             }
-            Answer::Refused(refusal) => {
+            Err(refusal) => {
                 let number = refusal.number();
                 write!(f, "refused {number}")
             }
@@ -80,7 +62,7 @@ pub(crate) struct Cost(pub(crate) Minutes);
 impl fmt::Display for Cost {
     fn fmt<W: fmt::Write>(&self, f: &mut fmt::Formatter<W>) -> fmt::Result {
         let minutes = self.0.value();
-        if minutes == NEVER {
+        if minutes == Minutes::never().value() {
             return write!(f, "none");
         }
         write!(f, "{minutes}")
@@ -93,7 +75,7 @@ pub(crate) struct Words<'a>(pub(crate) &'a Message<Minutes>);
 
 impl fmt::Display for Words<'_> {
     fn fmt<W: fmt::Write>(&self, f: &mut fmt::Formatter<W>) -> fmt::Result {
-        let kind = name_of_kind(self.0.kind);
+        let kind = self.0.kind;
         let from = self.0.from;
         let to = self.0.to;
         let cost = Cost(self.0.cost);

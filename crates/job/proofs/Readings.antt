@@ -1,14 +1,13 @@
 -- What the code reads of plans and jobs, in the words of the definitions. Assumes nothing.
-use Rattle.std.proofs.Common.{◌≡◌, ℕ, zero, suc, ◌+◌, ◌-◌, ◌*◌, ◌^◌, ◌<◌, ◌≤◌, Bool, true, false, not, ◌&&◌, ◌||◌, ltb, ◌⊎◌, List, length, get_or, set, sym, refl, ap, ◌∙◌, inl, inr, arith, pow-add}
+use Rattle.std.proofs.Common.{◌≡◌, ℕ, zero, suc, ◌+◌, ◌-◌, ◌*◌, ◌^◌, ◌<◌, ◌≤◌, not, ◌||◌, ltb, ◌⊎◌, length, get_or, refl, ap, ◌∙◌, inl, inr, arith, pow-add}
 use native.Mathlib.Nat.{pow-le-pow_right}
 use Rattle.std.specs.List.{range_with_len}
 use Rattle.std.proofs.lemmas.Nat.{mul-le}
-use Rattle.std.proofs.lemmas.List.{get_or_default, set_past}
+use Rattle.std.proofs.lemmas.List.{get_or_default}
 use Rattle.std.proofs.lemmas.Bool.{cond-true, cond-false, lt-ltb, le-ltb}
 use Rattle.job.specs.declared.job.Job.{Job}
 use Rattle.job.specs.declared.plan.Plan.{Plan}
-use Rattle.job.specs.Lists.{every}
-use Rattle.job.specs.Plans.{setup, setups, named, name, is_setup, product}
+use Rattle.job.specs.Plans.{setup, setups, named, is_setup, product}
 
 pub setup_within : (q : Plan) (k : ℕ) → k < 8 → setup q (suc k) ≡ get_or q.setups k 255
 setup_within q k lt = cond-true _ _ _ (lt-ltb k 8 lt)
@@ -26,16 +25,6 @@ module _ (q : Plan) (long : length q.setups ≡ 8) where
 
   pub setup_at : (k : ℕ) → k < 8 → setup q (1 + k) ≡ get_or q.setups k 0
   setup_at k lt = let e : 1 + k - 1 ≡ k = omega arith in setup_read (1 + k) (omega arith) (omega arith) ∙ ap (λ (i : ℕ). get_or q.setups i 0) e
-
-  pub name_none : (h i : ℕ) → (h < 1) ⊎ ((1 ≤ h) × (8 < h)) → q ≡ name q h i
-  name_none zero i o = refl
-  name_none (suc k) i (inl lt) = absurd (omega arith)
-  name_none (suc k) i (inr gt) = ap (λ (xs : List ℕ). record { setups = xs }) (sym (set_past q.setups k i (omega (arith, gt.1))))
-
--- naming writes one place
-pub name_write : (q : Plan) (h i : ℕ) → 1 ≤ h → record { setups = set q.setups (h - 1) i } ≡ name q h i
-name_write q zero i a = absurd (omega arith)
-name_write q (suc k) i a = let e : suc k - 1 ≡ k = omega arith in rw e
 
 pub setups_read : (j : Job) (h : ℕ) → 1 ≤ h → setups j h ≡ get_or j.setups (h - 1) 0
 setups_read j zero a = absurd (omega arith)
@@ -70,23 +59,3 @@ power_step x d k h l = omega (arith, mul-le x d (8 ^ k) 8 h l, pow-add 8 k 1)
 
 pub power_small : (x k : ℕ) → x ≤ 8 ^ k → k ≤ 8 → x < 2 ^ 32
 power_small x k h l = omega (arith, pow-le-pow_right {n = 8} (omega arith) l)
-
--- `every` over the numbers from a to n, one at a time: what is left gives the whole
-module _ (p : ℕ → Bool) (n k : ℕ) where
-  pub every_step : k < n → every p (range_with_len (1 + k) (n - k)) ≡ (p (1 + k) && every p (range_with_len (1 + (k + 1)) (n - (k + 1))))
-  unfolding every
-  every_step h =
-      let e : n - k ≡ suc (n - (k + 1)) = omega arith in
-      let f : 1 + k + 1 ≡ 1 + (k + 1) = omega arith in
-      ap (λ (x : ℕ). every p (range_with_len (1 + k) x)) e ∙ ap (λ (y : ℕ). p (1 + k) && every p (range_with_len y (n - (k + 1)))) f
-
-  pub every_end : n ≤ k → every p (range_with_len (1 + k) (n - k)) ≡ true
-  unfolding every
-  every_end h = let e : n - k ≡ 0 = omega arith in ap (λ (x : ℕ). every p (range_with_len (1 + k) x)) e
-
-  -- the next number fails, and so the whole; or it passes
-  pub every_fails : k < n → p (1 + k) ≡ false → every p (range_with_len (1 + k) (n - k)) ≡ false
-  every_fails h e = every_step h ∙ ap (λ (b : Bool). b && every p (range_with_len (1 + (k + 1)) (n - (k + 1)))) e
-
-  pub every_goes_on : k < n → p (1 + k) ≡ true → every p (range_with_len (1 + k) (n - k)) ≡ every p (range_with_len (1 + (k + 1)) (n - (k + 1)))
-  every_goes_on h e = every_step h ∙ ap (λ (b : Bool). b && every p (range_with_len (1 + (k + 1)) (n - (k + 1)))) e

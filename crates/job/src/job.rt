@@ -2,7 +2,7 @@
 ghost use Rattle.std.specs.Prelude.{◌≡◌, ℕ, ◌<◌, ◌≤◌, slice_index};
 
 // 1 to 8 heads, each with 1 to 8 setups: head h has `setups[h - 1]` of them, and there are none past the last head. No job
-// outside these ranges can exist.
+// outside these ranges can exist. A job is a plain value without a heap, so the setups are an array with the number of heads beside.
 #[derive(Clone, Copy)]
 pub struct Job {
     heads: u8,

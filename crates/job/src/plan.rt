@@ -1,12 +1,12 @@
 // Plans.
 ghost use Rattle.std.specs.Prelude.{◌≡◌, ◌≤◌};
-ghost use Rattle.job.specs.Plans.{empty as no_names, setup as setup_or_none, setup_named, named, name as naming, is_empty};
+ghost use Rattle.job.specs.Plans.{empty as no_names, setup_named, named, name as naming, is_empty};
 
-// none, in place of a setup
-const NONE: u8 = 255;
+// No setup, in place of one. Plans go from head to head as bytes, in which FF is none, so an option of a byte would have two nones.
+pub(crate) const NONE: u8 = 255;
 
 // One setup, or none, for each of eight heads: for head h the setup `setups[h - 1]`, 255 for none.
-#[derive(Clone, Copy)]
+#[derive(Clone, Copy, Debug, PartialEq, Eq)]
 pub struct Plan {
     pub setups: [u8; 8],
 }
@@ -19,22 +19,15 @@ impl Plan {
         Plan { setups: [NONE; 8] }
     }
 
-    // The setup that the plan names for a head, or 255.
-    fn setup_or_none(&self, head: u8) -> u8
-        ensures { result ≡ setup_or_none self.now head }
-    {
-        if head < 1 || head > 8 {
-            return NONE;
-        }
-        self.setups[head as usize - 1]
-    }
-
     // The setup that the plan names for a head, if it names one; a number that is no head has none.
     pub fn setup(&self, head: u8) -> Option<u8>
         ensures { result ≡ setup_named self.now head }
     {
-        let setup = self.setup_or_none(head);
-        if setup < NONE { Some(setup) } else { None }
+        let place = head.checked_sub(1)?;
+        match self.setups.get(place as usize) {
+            Some(&setup) if setup < NONE => Some(setup),
+            _ => None,
+        }
     }
 
     pub fn names(&self, head: u8) -> bool
@@ -44,13 +37,12 @@ impl Plan {
     }
 
     // The same as `name` for a number that is known to be a head.
-    fn name_known(self, head: u8, setup: u8) -> Plan
+    fn name_known(mut self, head: u8, setup: u8) -> Plan
         requires { (1 ≤ head) × (head ≤ 8) }
         ensures { result ≡ naming self head setup }
     {
-        let mut setups = self.setups;
-        setups[head as usize - 1] = setup;
-        Plan { setups }
+        self.setups[head as usize - 1] = setup;
+        self
     }
 
     // The plan that names a setup for one more head; 255 takes the name back. A number that is no head changes nothing.
@@ -67,11 +59,6 @@ impl Plan {
     pub fn is_empty(&self) -> bool
         ensures { result ≡ is_empty self.now }
     {
-        for k in 0..8 {
-            if self.setups[k] < NONE {
-                return false;
-            }
-        }
-        true
+        self.setups.iter().all(|setup| *setup == NONE)
     }
 }

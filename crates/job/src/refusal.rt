@@ -1,56 +1,57 @@
 // Why a call declines.
-ghost use Rattle.std.specs.Prelude.{◌≡◌};
+ghost use Rattle.std.specs.Prelude.{◌≡◌, ◌++◌, Some, codes, decimal};
 ghost use Rattle.job.specs.Refusals.{number as number_of};
 
+use std::error::Error;
+use std::fmt;
+
 // One case for each number; `number` in specs/Refusals.antt has the numbers.
-#[derive(Clone, Copy)]
+#[derive(Clone, Copy, Debug, PartialEq, Eq)]
 pub enum Refusal {
-    // 1: more bytes than a sheet may have
-    TooLong,
-    // 2: a line that is no frame
-    BadLine,
-    // 3: a frame that is not due
-    NotDue,
-    // 4: a length or a number outside its range
-    BadNumber,
-    // 5: a second table for a pair
-    SecondTable,
-    // 6: an unlawful entry
-    BadEntry,
-    // 7: less memory than is asked for
-    TooLittle,
-    // 8: a link of too low a limit
-    LimitTooLow,
-    // 9: a message waits at the start
-    MessageWaits,
-    // 10: the link is full
-    LinkFull,
-    // 11: no message waits
-    NoneWaits,
-    // 13: a stray message
-    Stray,
-    // 14: a search is out or a message waits at the end
-    StillOut,
+    // more bytes than a sheet may have
+    TooLong = 1,
+    // a line that is no frame
+    BadLine = 2,
+    // a frame that is not due
+    NotDue = 3,
+    // a length or a number outside its range
+    BadNumber = 4,
+    // a second table for a pair
+    SecondTable = 5,
+    // an unlawful entry
+    BadEntry = 6,
+    // less memory than is asked for
+    TooLittle = 7,
+    // a link of too low a limit
+    LimitTooLow = 8,
+    // a message waits at the start
+    MessageWaits = 9,
+    // the link is full
+    LinkFull = 10,
+    // no message waits
+    NoneWaits = 11,
+    // a stray message
+    Stray = 13,
+    // a search is out or a message waits at the end
+    StillOut = 14,
 }
 
 impl Refusal {
     pub fn number(self) -> u8
         ensures { result ≡ number_of self }
     {
-        match self {
-            Refusal::TooLong => 1,
-            Refusal::BadLine => 2,
-            Refusal::NotDue => 3,
-            Refusal::BadNumber => 4,
-            Refusal::SecondTable => 5,
-            Refusal::BadEntry => 6,
-            Refusal::TooLittle => 7,
-            Refusal::LimitTooLow => 8,
-            Refusal::MessageWaits => 9,
-            Refusal::LinkFull => 10,
-            Refusal::NoneWaits => 11,
-            Refusal::Stray => 13,
-            Refusal::StillOut => 14,
-        }
+        self as u8
     }
 }
+
+// "refused by rule 13"
+impl fmt::Display for Refusal {
+    ghost output = { λ x. Some (codes "refused by rule " ++ decimal (number_of x)) };
+
+    fn fmt<W: fmt::Write>(&self, f: &mut fmt::Formatter<W>) -> fmt::Result {
+        let number = self.number();
+        write!(f, "refused by rule {number}")
+    }
+}
+
+impl Error for Refusal {}

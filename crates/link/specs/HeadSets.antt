@@ -1,17 +1,19 @@
 -- Sets of heads, and what a picker may answer. A head is a number from 1 to 8; every other number is in no set. Assumes nothing.
-use Rattle.std.specs.Prelude.{◌≡◌, ℕ, zero, suc, ◌<◌, Bool, true, false, cond, List, [], ◌∷◌, replicate, nat_lt, slice_index_or, slice_set}
-use Rattle.link.specs.declared.heads.HeadSet.{HeadSet}
+use Rattle.std.specs.Prelude.{◌≡◌, ℕ, ◌<◌, Bool, true, false, List, [], ◌∷◌}
+use Rattle.job.specs.declared.sets.Set.{Set}
+use Rattle.job.specs.Sets.{none_of, has, with}
+
+abbrev pub HeadSet : Type 0
+HeadSet = Set 1
 
 abbrev pub no_heads : HeadSet
-no_heads = record { heads = replicate 8 false }
+no_heads = none_of 1
 
 abbrev pub has_head : HeadSet → ℕ → Bool
-has_head s zero = false
-has_head s (suc k) = cond (nat_lt k 8) (slice_index_or s.heads k false) false
+has_head = has 1
 
 abbrev pub with_head : HeadSet → ℕ → HeadSet
-with_head s zero = s
-with_head s (suc k) = record { heads = slice_set s.heads k true }
+with_head = with 1
 
 -- the set of the heads in a list
 unfoldable pub heads_in : List ℕ → HeadSet

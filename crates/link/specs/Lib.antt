@@ -2,6 +2,7 @@ pub mod Messages
 pub mod HeadSets
 pub mod Links
 pub mod Orders
+pub mod QueueModel
 pub mod FirstInModel
 pub mod LastInModel
 pub mod Posting

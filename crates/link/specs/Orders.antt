@@ -1,6 +1,6 @@
 -- What links that do keep an order promise beyond the meaning of a link. What waits is listed here from the oldest to the newest.
 -- Assumes nothing.
-use Rattle.std.specs.Prelude.{◌≡◌, ℕ, ◌<◌, List, [], ◌∷◌, ◌++◌, length, Ok, Err, Result}
+use Rattle.std.specs.Prelude.{◌≡◌, ℕ, List, [], ◌∷◌, ◌++◌, Ok, Err, Result}
 use Rattle.job.specs.declared.refusal.Refusal.{Refusal}
 use Rattle.problem.specs.Bags.{Same}
 
@@ -19,14 +19,8 @@ module _ {M U : Type 0} where
   NewestTaken waiting (Ok u) waiting' m = waiting ≡ waiting' ++ m ∷ []
   NewestTaken waiting (Err e) waiting' m = waiting' ≡ waiting
 
--- what a message more, or one fewer, comes to: in order, and as a bag
+-- what a message fewer comes to: in order, and as a bag
 module _ {M : Type 0} (m : M) (limit : ℕ) (waiting : List M) (limit' : ℕ) (waiting' : List M) where
-  pub record Added : Type 0 where
-    pub fits : length waiting < limit
-    pub limit_stays : limit' ≡ limit
-    pub newest : waiting' ≡ waiting ++ m ∷ []
-    pub bag : Same (m ∷ waiting) waiting'
-
   pub record OldestRemoved : Type 0 where
     pub limit_stays : limit' ≡ limit
     pub oldest : waiting ≡ m ∷ waiting'
@@ -36,3 +30,9 @@ module _ {M : Type 0} (m : M) (limit : ℕ) (waiting : List M) (limit' : ℕ) (w
     pub limit_stays : limit' ≡ limit
     pub newest : waiting ≡ waiting' ++ m ∷ []
     pub bag : Same (m ∷ waiting') waiting
+
+-- no message was there to be removed
+pub record NoneOut {M : Type 0} (limit : ℕ) (waiting : List M) (limit' : ℕ) (waiting' : List M) : Type 0 where
+  pub limit_stays : limit' ≡ limit
+  pub none : waiting ≡ []
+  pub none_still : waiting' ≡ []

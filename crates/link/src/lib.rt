@@ -1,11 +1,13 @@
 // Messages, links that carry them in an order of their own, and pickers.
 #![tactic(auto)]
 
+pub mod blank;
 pub mod first_in;
 pub mod heads;
 pub mod last_in;
 pub mod link;
 pub mod message;
 pub mod picker;
+mod queue;
 pub mod sending;
 pub mod theorems;

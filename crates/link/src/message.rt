@@ -1,10 +1,11 @@
 // What the heads tell each other.
-ghost use Rattle.std.specs.Prelude.{◌≡◌};
-ghost use Rattle.link.specs.Messages.{is_notice as counts_as_notice};
+ghost use Rattle.std.specs.Prelude.{◌≡◌, Some};
+ghost use Rattle.link.specs.Messages.{is_notice as counts_as_notice, kind_word, addressed};
 
 use job::plan::Plan;
+use std::fmt;
 
-#[derive(Clone, Copy)]
+#[derive(Clone, Copy, Debug, PartialEq, Eq)]
 pub enum Kind {
     // asks a head for its bound on a plan
     Request,
@@ -24,14 +25,24 @@ impl Kind {
     pub fn is_notice(self) -> bool
         ensures { result ≡ counts_as_notice self }
     {
-        match self {
-            Kind::Request => false,
-            Kind::Report => false,
-            Kind::Plan => false,
-            Kind::Return => false,
-            Kind::Notice => true,
-            Kind::Stop => false,
-        }
+        self == Kind::Notice
+    }
+}
+
+// The kind in a word.
+impl fmt::Display for Kind {
+    ghost output = { λ k. Some (kind_word k) };
+
+    fn fmt<W: fmt::Write>(&self, f: &mut fmt::Formatter<W>) -> fmt::Result {
+        let word = match self {
+            Kind::Request => "request",
+            Kind::Report => "report",
+            Kind::Plan => "plan",
+            Kind::Return => "return",
+            Kind::Notice => "notice",
+            Kind::Stop => "stop",
+        };
+        write!(f, "{word}")
     }
 }
 
@@ -44,4 +55,13 @@ pub struct Message<S> {
     pub search: u8,
     pub plan: Plan,
     pub cost: S,
+}
+
+impl<S: Copy> Message<S> {
+    // The same message to another head.
+    pub fn addressed(&self, head: u8) -> Message<S>
+        ensures { result ≡ addressed self.now head }
+    {
+        Message { to: head, ..*self }
+    }
 }

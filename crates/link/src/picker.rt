@@ -4,7 +4,7 @@ ghost use Rattle.link.specs.HeadSets.{Picks, PicksLowest, PicksHighest};
 use crate::heads::HeadSet;
 
 pub trait Picker {
-    // A member of the set, or 0 for the empty set. Which member is free.
+    // A member of the set, or 0 for the empty set: a head is a byte everywhere, and 0 is no head. Which member is free.
     fn pick(&mut self, set: HeadSet) -> u8
         ensures { Picks set result };
 }
@@ -17,42 +17,22 @@ pub struct Lowest {}
 #[derive(Clone, Copy)]
 pub struct Highest {}
 
-fn lowest_member(set: HeadSet) -> u8
-    ensures { PicksLowest set result }
-{
-    for i in 0..8u8 {
-        if set.heads[i as usize] {
-            return i + 1;
-        }
-    }
-    0
-}
-
-fn highest_member(set: HeadSet) -> u8
-    ensures { PicksHighest set result }
-{
-    for i in (0..8u8).rev() {
-        if set.heads[i as usize] {
-            return i + 1;
-        }
-    }
-    0
-}
-
 impl Picker for Lowest {
+    #[tactic(auto, using(crate::proofs::HeadSets::lowest_is_picked, crate::proofs::HeadSets::none_lower))]
     fn pick(&mut self, set: HeadSet) -> u8
         ensures member { Picks set result }
         ensures lowest { PicksLowest set result }
     {
-        lowest_member(set)
+        set.lowest().unwrap_or(0)
     }
 }
 
 impl Picker for Highest {
+    #[tactic(auto, using(crate::proofs::HeadSets::highest_is_picked, crate::proofs::HeadSets::none_higher))]
     fn pick(&mut self, set: HeadSet) -> u8
         ensures member { Picks set result }
         ensures highest { PicksHighest set result }
     {
-        highest_member(set)
+        set.highest().unwrap_or(0)
     }
 }

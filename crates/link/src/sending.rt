@@ -14,6 +14,7 @@ pub const MARGIN: usize = 56;
 
 // Posts a message, but drops a notice where as many messages wait as the limit less 56 says. Refused with 10 where the link is
 // full; the message is lost then.
+#[tactic(auto, using(crate::proofs::Posting::sent_posted))]
 pub fn send<S: Scale, L: Link<Message<S>>>(link: &mut L, message: Message<S>) -> Result<(), Refusal>
     ensures { Sends (L.Link.limit link.old) (L.Link.bag link.old) message result (L.Link.limit link.new) (L.Link.bag link.new) }
 {

@@ -1,10 +1,13 @@
 -- What messages come to that are posted one after the other. Assumes nothing.
-use Rattle.std.proofs.Common.{◌≡◌, ℕ, ◌+◌, ◌<◌, List, [], ◌∷◌, ◌++◌, length, get_or, take, sym, ap, ◌∙◌, append_assoc, arith, length-append, length-take}
+use Rattle.std.proofs.Common.{◌≡◌, ℕ, ◌+◌, ◌<◌, List, [], ◌∷◌, ◌++◌, length, get_or, take, sym, ap, ◌∙◌, append_assoc, append-nil, arith, length-append, length-take}
 use Rattle.std.proofs.lemmas.List.{take_more}
 use Rattle.problem.specs.Bags.{Same}
 use Rattle.link.proofs.Bags.{same_refl, same_sym, same_trans, same_append, same_last, same_length}
 
 module _ {M : Type 0} where
+  pub posted_none : (bag : List M) → Same (bag ++ []) bag
+  posted_none bag = rw (append-nil bag) (same_refl bag)
+
   -- one message more
   pub posted_more : (bag bag' bag'' ms : List M) (i : ℕ) (m : M) → i < length ms → m ≡ get_or ms i m → Same (bag ++ take i ms) bag' → Same (m ∷ bag') bag'' → Same (bag ++ take (i + 1) ms) bag''
   posted_more bag bag' bag'' ms i m h is before posted =

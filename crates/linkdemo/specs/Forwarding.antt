@@ -4,9 +4,8 @@ use Rattle.scale.specs.Operations.{Operations}
 use Rattle.job.specs.declared.refusal.Refusal.{Refusal}
 use Rattle.job.specs.Refusals.{number}
 use Rattle.problem.specs.Bags.{Same}
-use Rattle.link.specs.declared.heads.HeadSet.{HeadSet}
 use Rattle.link.specs.declared.message.Message.{Message}
-use Rattle.link.specs.HeadSets.{Picks}
+use Rattle.link.specs.HeadSets.{HeadSet, Picks}
 use Rattle.link.specs.Messages.{message}
 
 module _ {S : Type 0} (s : Operations S) (surcharge : S) where

@@ -24,6 +24,7 @@ pub fn forward<S: Scale, L: Link<Message<S>>, P: Picker>(
     forward_to(link, head, surcharge, place)
 }
 
+#[tactic(auto, using(crate::proofs::Forwarding::taken_then_posted))]
 fn forward_to<S: Scale, L: Link<Message<S>>>(
     link: &mut L,
     head: u8,
@@ -42,11 +43,7 @@ fn readdressed<S: Scale>(message: Message<S>, head: u8, surcharge: S) -> Message
     ensures { result ≡ sent_on S.Scale.scale surcharge head message }
 {
     Message {
-        kind: message.kind,
-        to: head,
-        from: message.from,
-        search: message.search,
-        plan: message.plan,
         cost: message.cost.join(surcharge),
+        ..message.addressed(head)
     }
 }

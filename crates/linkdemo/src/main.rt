@@ -2,14 +2,12 @@
 // each.
 #![tactic(auto)]
 
-mod failure;
 mod fill;
 mod forward;
 mod show;
 mod twelve;
 mod words;
 
-use failure::Failure;
 use link::first_in::FirstIn;
 use link::last_in::LastIn;
 use link::message::Message;
@@ -24,7 +22,7 @@ fn orders(
     rt: &HostRuntime,
     places: &mut [Message<Minutes>],
     messages: &[Message<Minutes>],
-) -> Result<(), Failure> {
+) -> anyhow::Result<()> {
     println!(rt; "Out of a first-in link come")?;
     carry(rt, &mut FirstIn::new(places), messages)?;
     println!(rt; "Out of a last-in link come")?;
@@ -36,7 +34,7 @@ fn forwards(
     rt: &HostRuntime,
     places: &mut [Message<Minutes>],
     messages: &[Message<Minutes>],
-) -> Result<(), Failure> {
+) -> anyhow::Result<()> {
     println!(rt; "Forwarded at 5 minutes more, to one of the heads 2, 5 and 7:")?;
     pass_on(
         rt,
@@ -68,7 +66,7 @@ fn forwards(
     )
 }
 
-fn run(rt: &HostRuntime) -> Result<(), Failure> {
+fn run(rt: &HostRuntime) -> anyhow::Result<()> {
     let messages = twelve();
     let mut places = messages;
     orders(rt, &mut places, &messages)?;
@@ -76,6 +74,7 @@ fn run(rt: &HostRuntime) -> Result<(), Failure> {
     refusals(rt, &mut FirstIn::new(&mut places), &messages)
 }
 
+// A failure ends the program with status 1 and prints nothing; an error that `main` answers would be printed.
 fn main(rt: HostRuntime) -> ExitCode {
     match run(&rt) {
         Ok(()) => ExitCode::SUCCESS,

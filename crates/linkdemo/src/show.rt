@@ -2,11 +2,11 @@
 ghost use Rattle.std.specs.Prelude.{◌≡◌};
 ghost use Rattle.linkdemo.specs.Filling.{refused_with};
 
-use crate::failure::Failure;
 use crate::fill::fill;
 use crate::forward::forward;
 use crate::twelve::message;
 use crate::words::Words;
+use anyhow::bail;
 use job::refusal::Refusal;
 use link::heads::HeadSet;
 use link::link::Link;
@@ -20,9 +20,10 @@ pub(crate) fn carry<L: Link<Message<Minutes>>>(
     rt: &HostRuntime,
     link: &mut L,
     messages: &[Message<Minutes>],
-) -> Result<(), Failure> {
+) -> anyhow::Result<()> {
     fill(link, messages)?;
     let mut place = message(Kind::Stop, 0, 0, 0);
+    // the number is only printed: the messages come out in an order of the link's own
     for number in 1..=messages.len() {
         link.take(&mut place)?;
         let words = Words(place);
@@ -38,7 +39,7 @@ pub(crate) fn pass_on<L: Link<Message<Minutes>>, P: Picker>(
     link: &mut L,
     picker: &mut P,
     messages: &[Message<Minutes>],
-) -> Result<(), Failure> {
+) -> anyhow::Result<()> {
     fill(link, messages)?;
     let heads = HeadSet::empty().with(2).with(5).with(7);
     let mut place = message(Kind::Stop, 0, 0, 5);
@@ -54,23 +55,23 @@ pub(crate) fn refusals<L: Link<Message<Minutes>>>(
     rt: &HostRuntime,
     link: &mut L,
     messages: &[Message<Minutes>],
-) -> Result<(), Failure> {
+) -> anyhow::Result<()> {
     let mut place = message(Kind::Stop, 0, 0, 0);
     let empty = number_of(link.take(&mut place));
     fill(link, messages)?;
     let full = number_of(link.post(place));
+    let (Some(empty), Some(full)) = (empty, full) else {
+        bail!("an empty link gave a message, or a full one took one");
+    };
     println!(rt;
         "A take where none waits is refused with {empty}, a post to a full link with {full}."
     )?;
     Ok(())
 }
 
-// The number of the refusal, or 0 where there is none.
-fn number_of(answer: Result<(), Refusal>) -> u8
+// The number of the refusal, if there is one.
+fn number_of(answer: Result<(), Refusal>) -> Option<u8>
     ensures { result ≡ refused_with answer }
 {
-    match answer {
-        Ok(()) => 0,
-        Err(refusal) => refusal.number(),
-    }
+    answer.err().map(Refusal::number)
 }

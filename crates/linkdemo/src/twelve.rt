@@ -4,8 +4,8 @@ ghost use Rattle.std.specs.Prelude.{◌≡◌, min};
 use job::plan::Plan;
 use link::message::{Kind, Message};
 use scale::minutes::Minutes;
-use scale::scale::Scale;
 
+// A message of the search 1 about no plan, at so many minutes, or never past 1,000,000,000.
 pub(crate) fn message(kind: Kind, from: u8, to: u8, minutes: u32) -> Message<Minutes>
     ensures kind { result.kind ≡ kind }
     ensures from { result.from ≡ from }
@@ -18,17 +18,7 @@ pub(crate) fn message(kind: Kind, from: u8, to: u8, minutes: u32) -> Message<Min
         from,
         search: 1,
         plan: Plan::empty(),
-        cost: minutes_or_never(minutes),
-    }
-}
-
-// So many minutes; never past 1,000,000,000.
-fn minutes_or_never(minutes: u32) -> Minutes
-    ensures { result.value ≡ min minutes 1000000000 }
-{
-    match Minutes::new(minutes) {
-        Some(cost) => cost,
-        None => Minutes::never(),
+        cost: Minutes::capped(minutes),
     }
 }
 

@@ -1,17 +1,6 @@
 // Messages in words, for a person.
-use link::message::{Kind, Message};
+use link::message::Message;
 use std::fmt;
-
-fn name(kind: Kind) -> &'static str {
-    match kind {
-        Kind::Request => "request",
-        Kind::Report => "report",
-        Kind::Plan => "plan",
-        Kind::Return => "return",
-        Kind::Notice => "notice",
-        Kind::Stop => "stop",
-    }
-}
 
 // As "report from head 2 to head 1, 3 minutes".
 #[derive(Clone, Copy)]
@@ -19,7 +8,7 @@ pub struct Words<S>(pub Message<S>);
 
 impl<S: fmt::Display> fmt::Display for Words<S> {
     fn fmt<W: fmt::Write>(&self, f: &mut fmt::Formatter<W>) -> fmt::Result {
-        let kind = name(self.0.kind);
+        let kind = self.0.kind;
         let from = self.0.from;
         let to = self.0.to;
         let cost = &self.0.cost;

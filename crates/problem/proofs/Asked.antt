@@ -1,35 +1,36 @@
--- Questions about a plan's costs: what an answer says of its question, and what another question that is asked where it is gets.
--- Assumes nothing.
-use Rattle.std.proofs.Common.{◌≡◌, ℕ, ◌≤◌, Bool, true, false, cond, ltb, List, length, Ok, Err, Result, refl, arith}
-use Rattle.std.proofs.lemmas.Bool.{ltb-false}
+-- Questions about a plan's costs: what an answer says of its question, and what naming one more head comes to where it may be asked
+-- for. Assumes nothing.
+use Rattle.std.proofs.Common.{◌≡◌, ℕ, ◌<◌, ◌≤◌, Bool, true, false, cond, not, ltb, List, length, Ok, Err, Result, sym, refl, ap, arith}
+use Rattle.std.proofs.lemmas.Bool.{and_parts, ltb-true, not-true}
+use Rattle.scale.specs.Operations.{Operations, Laws}
+use Rattle.job.specs.declared.job.Job.{Job}
+use Rattle.job.specs.declared.plan.Plan.{Plan}
 use Rattle.job.specs.declared.refusal.Refusal.{Refusal}
 use Rattle.job.specs.declared.refusal.Refusal.TheVariants.{BadNumber, TooLittle}
-use Rattle.problem.specs.Costs.{priced}
+use Rattle.job.specs.Plans.{setups, named, name, is_of_job}
+use Rattle.problem.specs.Costs.{against, plan_cost, priced, may_ask_setup}
+use Rattle.problem.proofs.Naming.{setups_few, naming_joins_costs}
+use Rattle.problem.proofs.Walks.{head_range}
 
 module _ {S : Type 0} where
   abbrev answer : Bool → Bool → S → Result S Refusal
   answer few sensible x = cond few (Err TooLittle) (cond sensible (Ok x) (Err BadNumber))
 
+  -- an answer: there was room, the question made sense, and it is the one asked for
   answered : (few sensible : Bool) (x y : S) → Ok x ≡ answer few sensible y → (few ≡ false) × (sensible ≡ true) × (x ≡ y)
   answered true sensible x y e = absurd (let o : ◌≡◌ {A = ℕ} 0 1 = cc in omega arith)
   answered false true x y e = (refl, refl, cc)
   answered false false x y e = absurd (let o : ◌≡◌ {A = ℕ} 0 1 = cc in omega arith)
 
-  declined : (few sensible : Bool) (why : Refusal) (x y : S) → Err why ≡ answer few sensible x → Err why ≡ answer few sensible y
-  declined true sensible why x y e = e
-  declined false true why x y e = absurd (let o : ◌≡◌ {A = ℕ} 0 1 = cc in omega arith)
-  declined false false why x y e = e
-
-  module _ (costs : List S) (sensible : Bool) where
-    -- an answer: there was room, the question made sense, and it is the one asked for
-    pub priced_answered : (x y : S) → Ok x ≡ priced costs sensible y → (1792 ≤ length costs) × (sensible ≡ true) × (x ≡ y)
-    priced_answered x y e = let a = answered (ltb (length costs) 1792) sensible x y e in (ltb-false _ _ a.0, a.1, a.2)
-
-    pub priced_declined : (why : Refusal) (x y : S) → Err why ≡ priced costs sensible x → Err why ≡ priced costs sensible y
-    priced_declined why x y e = declined (ltb (length costs) 1792) sensible why x y e
-
-    pub priced_again : (x y z : S) → Ok x ≡ priced costs sensible y → Ok z ≡ priced costs sensible z
-    priced_again x y z e = again (ltb (length costs) 1792) sensible (answered (ltb (length costs) 1792) sensible x y e)
-      where
-        again : (few s : Bool) → (few ≡ false) × (s ≡ true) × (x ≡ y) → Ok z ≡ answer few s z
-        again few s a = rw (a.0, a.1)
+module _ {S : Type 0} {s : Operations S} (laws : Laws s) (costs : List S) (j : Job) (h i : ℕ) (q : Plan) (long : length q.setups ≡ 8) where
+  pub naming_answered : (more whole sum : S) → Ok more ≡ priced costs (may_ask_setup j h i q) (against s costs j h i q) → Ok whole ≡ priced costs (is_of_job j q) (plan_cost s costs j q) →
+      sum ≡ s.join whole more → Ok sum ≡ priced costs (may_ask_setup j h i q) (plan_cost s costs j (name q h i))
+  naming_answered more whole sum asked priced_so joined_so =
+      let a = answered (ltb (length costs) 1792) (may_ask_setup j h i q) more _ asked in
+      let w = answered (ltb (length costs) 1792) (is_of_job j q) whole _ priced_so in
+      let parts = and_parts (ltb i (setups j h)) (not (named q h)) (and_parts (is_of_job j q) _ a.1).1 in
+      let own : i < setups j h = ltb-true i (setups j h) parts.0 in
+      let range : (1 ≤ h) × (h ≤ j.heads) = head_range j h (omega arith) in
+      let small : i < 255 = omega (arith, setups_few j h) in
+      let is : sum ≡ plan_cost s costs j (name q h i) = rw (joined_so, w.2, a.2) (sym (naming_joins_costs laws costs j q h i long range.0 range.1 small (not-true _ parts.1))) in
+      rw (a.0, a.1) (ap Ok is)

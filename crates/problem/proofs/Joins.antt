@@ -1,9 +1,9 @@
 -- Joins: the laws of a scale carried over to joins over lists and over pairs of lists, in any order, and to the least of a
 -- list. Assumes nothing.
-use Rattle.std.proofs.Common.{◌≡◌, ℕ, List, [], ◌∷◌, ◌++◌, sym, refl, ap, ◌∙◌, subst, ap₂, inl, inr}
+use Rattle.std.proofs.Common.{◌≡◌, ℕ, List, [], ◌∷◌, ◌++◌, map, sym, refl, ap, ◌∙◌, subst, ap₂, inl, inr}
 use Rattle.std.proofs.lemmas.Bool.{cases_Bool, cond-true, cond-false}
 use Rattle.std.proofs.ByRecursion.{All-weaker}
-use Rattle.std.specs.List.{AllByRecursion as All}
+use Rattle.std.specs.List.{fold, AllByRecursion as All}
 use Rattle.scale.specs.Operations.{Operations, Laws, AtMost}
 use Rattle.problem.specs.Bags.{Out, here, there, Same, none, one}
 use Rattle.problem.specs.Costs.{joined, joined_pairs, lesser, least}
@@ -117,6 +117,15 @@ module _ {S : Type 0} {s : Operations S} (laws : Laws s) where
 
   pub lesser_never_right : (x : S) → lesser s x s.never ≡ x
   lesser_never_right x = cond-true _ _ _ (laws.greatest x)
+
+  -- the least, by a fold from the front
+  least_folded_from : (f : ℕ → S) (x : S) (xs : List ℕ) → fold (lesser s) x (map f xs) ≡ lesser s x (least s f xs)
+  unfolding least
+  least_folded_from f x [] = sym (lesser_never_right x)
+  least_folded_from f x (z ∷ xs) = least_folded_from f (lesser s x (f z)) xs ∙ lesser_associative x (f z) (least s f xs)
+
+  pub least_folded : (f : ℕ → S) (xs : List ℕ) → fold (lesser s) s.never (map f xs) ≡ least s f xs
+  least_folded f xs = least_folded_from f s.never xs ∙ lesser_never_left (least s f xs)
 
   -- the least is at most what each member has
   pub least_at_most : (f : ℕ → S) {m : ℕ} {xs ys : List ℕ} → Out m xs ys → AtMost s (least s f xs) (f m)

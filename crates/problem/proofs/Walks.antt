@@ -1,4 +1,4 @@
--- The loops over heads and setups: what is left gives the whole. Assumes nothing.
+-- The loops over heads: what is left gives the whole. Assumes nothing.
 use Rattle.std.proofs.Common.{◌≡◌, ℕ, zero, suc, ◌+◌, ◌-◌, ◌<◌, ◌≤◌, Bool, true, false, not, ◌||◌, ◌⊎◌, List, [], ◌∷◌, Some, None, sym, ap, ◌∙◌, inl, inr, arith}
 use Rattle.std.specs.List.{range_with_len}
 use Rattle.std.proofs.lemmas.Bool.{cases_Bool, cases_lt, and_parts, or_cases, cond-true, cond-false, ltb-true, not-true, both_ways}
@@ -7,8 +7,8 @@ use Rattle.job.specs.declared.job.Job.{Job}
 use Rattle.job.specs.declared.plan.Plan.{Plan}
 use Rattle.job.specs.Lists.{those, every}
 use Rattle.job.specs.Plans.{setup, setups, named, setup_named, is_setup, is_of_job}
-use Rattle.problem.specs.Costs.{joined, joined_pairs, lesser, least, against_those, as_named, between, Readable, Comparable}
-use Rattle.problem.proofs.Joins.{neutral_right, lesser_associative, lesser_never_right}
+use Rattle.problem.specs.Costs.{joined, joined_pairs, against_those, as_named, between, Comparable}
+use Rattle.problem.proofs.Joins.{neutral_right}
 use Rattle.problem.proofs.Naming.{those_passes, those_fails, setups_few}
 use Rattle.job.proofs.Readings.{setup_none}
 
@@ -80,11 +80,10 @@ head_range j (suc k) e = elim (cases_lt k j.heads) [
 ]
 
 -- a head against those of the job that a plan names
-pub comparable : {S : Type 0} (j : Job) (costs : List S) (q : Plan) (h i a : ℕ) → Readable j costs q → 1 ≤ h → h ≤ 8 → i < 8 → 1 ≤ a →
-    ((g : ℕ) → a ≤ g → named q g ≡ true → h ≡ g → ⊥) → Comparable costs q h i a (j.heads + 1)
-comparable j costs q h i a r low high fits from apart = record {
-  room = r.room;
-  few = named_few j q r.of_job;
+pub comparable : (j : Job) (q : Plan) (h i a : ℕ) → is_of_job j q ≡ true → 1 ≤ h → h ≤ 8 → i < 8 → 1 ≤ a →
+    ((g : ℕ) → a ≤ g → named q g ≡ true → h ≡ g → ⊥) → Comparable q h i a j.heads
+comparable j q h i a of_job low high fits from apart = record {
+  few = named_few j q of_job;
   head_from = low;
   head_to = high;
   setup_fits = fits;
@@ -134,12 +133,3 @@ module _ {S : Type 0} {s : Operations S} (laws : Laws s) where
     pub pairs_done : z ≤ a → sum ≡ whole
     unfolding joined_pairs
     pairs_done h = sym (neutral_right laws sum) ∙ ap (λ (xs : List ℕ). s.join sum (joined_pairs s (as_named s costs q) xs)) (sym (those_end (named q) a z h)) ∙ inv
-
-  module _ (f : ℕ → S) (a z : ℕ) (sum whole : S) (inv : lesser s sum (least s f (range_with_len a (z - a))) ≡ whole) where
-    pub least_step : a < z → lesser s (lesser s sum (f a)) (least s f (range_with_len (a + 1) (z - (a + 1)))) ≡ whole
-    unfolding least
-    least_step lt = lesser_associative laws sum (f a) _ ∙ ap (λ (xs : List ℕ). lesser s sum (least s f xs)) (sym (counting_step a z lt)) ∙ inv
-
-    pub least_done : z ≤ a → sum ≡ whole
-    unfolding least
-    least_done h = sym (lesser_never_right laws sum) ∙ ap (λ (xs : List ℕ). lesser s sum (least s f xs)) (sym (counting_end a z h)) ∙ inv

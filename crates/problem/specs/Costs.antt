@@ -71,21 +71,16 @@ module _ {S : Type 0} (s : Operations S) where
       abbrev pub bound : ℕ → Plan → S
       bound u q = least (λ i. against u i q) (range_with_len 0 (setups j u))
 
--- What the code asks before it reads costs: all of them are there, and the plan names only heads and setups of the job.
-pub record Readable {S : Type 0} (j : Job) (costs : List S) (q : Plan) : Type 0 where
-  pub room : 1792 ≤ length costs
-  pub of_job : is_of_job j q ≡ true
-
--- the same of one head h with setup i against the heads from a up to, and without, z: h is none of those that q names
-pub record Comparable {S : Type 0} (costs : List S) (q : Plan) (h i a z : ℕ) : Type 0 where
-  pub room : 1792 ≤ length costs
+-- What the code asks before it reads costs of one head h with setup i against the heads from a up to z: the plan names only setups
+-- below 8, and h is none of those that it names there.
+pub record Comparable (q : Plan) (h i a z : ℕ) : Type 0 where
   pub few : (g : ℕ) → named q g ≡ true → setup q g < 8
   pub head_from : 1 ≤ h
   pub head_to : h ≤ 8
   pub setup_fits : i < 8
   pub from : 1 ≤ a
-  pub to : z ≤ 9
-  pub apart : (g : ℕ) → a ≤ g → g < z → named q g ≡ true → h ≢ g
+  pub to : z ≤ 8
+  pub apart : (g : ℕ) → a ≤ g → g ≤ z → named q g ≡ true → h ≢ g
 
 -- a question about a plan's costs, answered where there are 1,792 costs and the question makes sense
 abbrev pub priced : {S : Type 0} → List S → Bool → S → Result S Refusal

@@ -1,4 +1,5 @@
 pub mod Bags
 pub mod Costs
+pub mod Prices
 pub mod Pruning
 pub mod Weights

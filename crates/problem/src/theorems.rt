@@ -5,53 +5,25 @@ ghost use Rattle.problem.specs.Costs.{against as against_named, plan_cost, price
 ghost use Rattle.problem.specs.Pruning.{NamingJoinsCosts, PruningIsSafe, ChildrenCover};
 ghost use Rattle.problem.specs.Weights.{ExpandingFits, RootsWeigh};
 
-use crate::price::{against, plan_cost_known};
+use crate::price::Problem;
 use job::job::Job;
 use job::plan::Plan;
 use job::refusal::Refusal;
 use scale::scale::Scale;
 
-// The same as `cost_after_naming`, where what naming the head adds is known.
-fn cost_after_adding<S: Scale>(
-    job: &Job,
-    costs: &[S],
-    head: u8,
-    setup: u8,
-    plan: Plan,
-    added: Result<S, Refusal>,
-) -> Result<S, Refusal>
-    requires { added ≡ priced costs.now (may_ask_setup job.now head setup plan) (against_named S.Scale.scale costs.now job.now head setup plan) }
-    ensures value { result ≡ priced costs.now (may_ask_setup job.now head setup plan) (plan_cost S.Scale.scale costs.now job.now (name plan head setup)) }
-    ensures naming { NamingJoinsCosts S.Scale.scale }
-    ensures pruning { PruningIsSafe S.Scale.scale }
-{
-    match added {
-        Ok(more) => Ok(plan_cost_known(job, costs, &plan).join(more)),
-        Err(refusal) => Err(refusal),
+impl<'a, S: Scale> Problem<'a, S> {
+    // The cost of the plan with one more head named, by what naming it adds; refused as `against` is. And no completion of a plan
+    // is cheaper than its cost joined with the bounds.
+    pub fn cost_after_naming(&self, head: u8, setup: u8, plan: &Plan) -> Result<S, Refusal>
+        ensures value { result ≡ priced self.now.costs.now (may_ask_setup self.now.job.now head setup plan.now) (plan_cost S.Scale.scale self.now.costs.now self.now.job.now (name plan.now head setup)) }
+        ensures naming { NamingJoinsCosts S.Scale.scale }
+        ensures pruning { PruningIsSafe S.Scale.scale }
+    {
+        // once read, the plan's setups are known to be eight
+        let _setups = plan.setups;
+        let more = self.against(head, setup, plan)?;
+        Ok(self.plan_cost(plan)?.join(more))
     }
-}
-
-// The cost of the plan with one more head named, by what naming it adds; refused as `against` is. And no completion of a plan is
-// cheaper than its cost joined with the bounds.
-pub fn cost_after_naming<S: Scale>(
-    job: &Job,
-    costs: &[S],
-    head: u8,
-    setup: u8,
-    plan: &Plan,
-) -> Result<S, Refusal>
-    ensures value { result ≡ priced costs.now (may_ask_setup job.now head setup plan.now) (plan_cost S.Scale.scale costs.now job.now (name plan.now head setup)) }
-    ensures naming { NamingJoinsCosts S.Scale.scale }
-    ensures pruning { PruningIsSafe S.Scale.scale }
-{
-    cost_after_adding(
-        job,
-        costs,
-        head,
-        setup,
-        *plan,
-        against(job, costs, head, setup, plan),
-    )
 }
 
 // The same as `roots_weight`, where the number of complete plans is known.

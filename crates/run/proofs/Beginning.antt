@@ -42,9 +42,8 @@ empty_of_job : (j : Job) → is_of_job j empty ≡ true
 unfolding every
 empty_of_job j = refl
 
-pub ready : {S : Type 0} (j : Job) (costs : List S) (v : ℕ) → 1792 ≤ length costs → v < setups j 1 → Ready j costs 1 empty (only_setup v)
-ready j costs v room lt = record {
-  room = room;
+pub ready : (j : Job) (v : ℕ) → v < setups j 1 → Ready j 1 empty (only_setup v)
+ready j v lt = record {
   head = le-leb 1 (setups j 1) (omega arith);
   of_job = empty_of_job j;
   free = refl;

@@ -1,6 +1,6 @@
 -- What an end tells is right: the best of head 1, if nothing waits, is a cheapest plan with its cost, or none where every plan costs never.
 -- Serves the theorem. Assumes nothing.
-use Rattle.std.proofs.Common.{◌≡◌, ℕ, Bool, true, false, ◌↔◌, sym, ap, ◌∙◌, subst, inl, inr, arith}
+use Rattle.std.proofs.Common.{◌≡◌, Bool, true, false, ◌↔◌, Some, None, Option, sym, ap, ◌∙◌, subst, inl, inr, arith}
 use Rattle.std.proofs.lemmas.Bool.{both_ways}
 use Rattle.job.specs.declared.job.Job.{Job}
 use Rattle.job.specs.Plans.{heads, named, empty, is_complete}
@@ -10,8 +10,7 @@ use Rattle.searches.specs.Cubes.{Problem}
 use Rattle.searches.specs.Bests.{Good, no_plan, a_plan}
 use Rattle.searches.proofs.Cubes.{counting_has, empty_unnamed}
 use Rattle.searches.proofs.Messages.{complete_is_complete}
-use Rattle.run.specs.declared.run.Outcome.{Outcome}
-use Rattle.run.specs.declared.run.Outcome.TheVariants.{Found, NoPlan}
+use Rattle.run.specs.declared.run.Found.{Found}
 use Rattle.run.specs.Ending.{Tells}
 use Rattle.run.specs.Whole.{NoneCheaper, AllNever, Stands, Right}
 use Rattle.run.proofs.Sets.{every_fails}
@@ -35,17 +34,17 @@ module _ {S : Type 0} (π : Problem S) where
     not_all_never : is_complete π.job b.plan ≡ true → AllNever π.scale π.costs π.job → ⊥
     not_all_never full all = both_ways (is_complete π.job b.plan) (ap (is_complete π.job) (when.1 all) ∙ empty_is_incomplete π.job) full
 
-    found_is_right : (packed : ℕ) (cost : S) → Good π b → is_complete π.job b.plan ≡ true → Tells π.scale b true (Found packed cost) → Right π.scale π.costs π.job (Found packed cost)
-    found_is_right packed cost (no_plan never plan) full t = absurd (both_ways (is_complete π.job b.plan) (ap (is_complete π.job) plan ∙ empty_is_incomplete π.job) full)
-    found_is_right packed cost (a_plan found) full t =
+    found_is_right : (f : Found S) → Good π b → is_complete π.job b.plan ≡ true → Tells π.scale b true (Some f) → Right π.scale π.costs π.job (Some f)
+    found_is_right f (no_plan never plan) full t = absurd (both_ways (is_complete π.job b.plan) (ap (is_complete π.job) plan ∙ empty_is_incomplete π.job) full)
+    found_is_right f (a_plan found) full t =
         (b.plan, sym t.0, found.complete, t.1 ∙ found.costs, subst (NoneCheaper π.scale π.costs π.job) (sym t.1) none_cheaper, not_all_never full)
 
-    none_is_right : Good π b → is_complete π.job b.plan ≡ false → Right π.scale π.costs π.job NoPlan
+    none_is_right : Good π b → is_complete π.job b.plan ≡ false → Right π.scale π.costs π.job None
     none_is_right (no_plan never plan) part = when.0 plan
     none_is_right (a_plan found) part = absurd (both_ways (is_complete π.job b.plan) part (complete_is_complete π.job b.plan found.complete))
 
-    pub told_is_right : (full : Bool) (outcome : Outcome S) → Good π b → is_complete π.job b.plan ≡ full → Tells π.scale b full outcome → Right π.scale π.costs π.job outcome
-    told_is_right true (Found packed cost) good e t = found_is_right packed cost good e t
-    told_is_right true NoPlan good e t = elim t [ ]
-    told_is_right false (Found packed cost) good e t = elim t [ ]
-    told_is_right false NoPlan good e t = none_is_right good e
+    pub told_is_right : (full : Bool) (outcome : Option (Found S)) → Good π b → is_complete π.job b.plan ≡ full → Tells π.scale b full outcome → Right π.scale π.costs π.job outcome
+    told_is_right true (Some f) good e t = found_is_right f good e t
+    told_is_right true None good e t = elim t [ ]
+    told_is_right false (Some f) good e t = elim t [ ]
+    told_is_right false None good e t = none_is_right good e

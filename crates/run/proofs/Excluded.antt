@@ -1,12 +1,11 @@
 -- What the relations leave no room for: an idle deliver, an end that always declines, an invented count. Assumes nothing.
-use Rattle.std.proofs.Common.{◌≡◌, ℕ, ◌<◌, true, cond, ◌||◌, eqb, [], length, Ok, Err, Result, refl, ap, inl, inr, arith}
+use Rattle.std.proofs.Common.{◌≡◌, ℕ, ◌<◌, true, cond, ◌||◌, eqb, [], length, Some, None, Ok, Err, Option, Result, refl, ap, inl, inr, arith}
 use Rattle.job.specs.declared.refusal.Refusal.{Refusal}
 use Rattle.link.specs.declared.message.Kind.{Kind}
 use Rattle.run.specs.declared.run.Run.{Run}
 use Rattle.run.specs.declared.run.Ended.{Ended}
-use Rattle.run.specs.declared.run.Refused.{Refused}
-use Rattle.run.specs.declared.run.Outcome.{Outcome}
-use Rattle.run.specs.declared.run.Outcome.TheVariants.{Found, NoPlan}
+use Rattle.job.specs.declared.declined.Declined.{Declined}
+use Rattle.run.specs.declared.run.Found.{Found}
 use Rattle.head.specs.declared.best.Best.{Best}
 use Rattle.job.specs.Refusals.{number}
 use Rattle.scale.specs.Operations.{Operations}
@@ -40,7 +39,7 @@ module _ {S : Type 0} (s : Operations S) where
   no_idle_deliver (Delivers.granted m k _ did) en h = (ap (λ (x : Run). x.count) did.run, refl)
 
   -- No end that always refuses, and none that is granted while a message waits or a search is out.
-  end_must_grant : {w : World S} {f : Refused} → Ends s w (Err f) → Enough w.lent → w.run.out ≡ 0 → w.lent.bag ≡ [] → ⊥
+  end_must_grant : {w : World S} {f : Declined Run} → Ends s w (Err f) → Enough w.lent → w.run.out ≡ 0 → w.lent.bag ≡ [] → ⊥
   end_must_grant {w} (Ends.too_little n l e) en o b = enough_or_lacks w.lent en l
   end_must_grant {w} (Ends.still_out n _ (inl h) e) en o b = omega arith
   end_must_grant {w} (Ends.still_out n _ (inr h) e) en o b = nothing_waits w.lent b h
@@ -49,9 +48,9 @@ module _ {S : Type 0} (s : Operations S) where
   end_must_refuse (Ends.granted _ o b did) = (o, b)
 
   -- No "no plan" each time, and no plan but head 1's best.
-  tells_the_plan : (best : Best S) (o : Outcome S) → Tells s best true o → (packed : ℕ) × (cost : S) × (o ≡ Found packed cost) × (unpacked packed ≡ best.plan.setups) × (cost ≡ best.cost)
-  tells_the_plan best (Found packed cost) t = (packed, cost, refl, t.0, t.1)
-  tells_the_plan best NoPlan t = absurd t
+  tells_the_plan : (best : Best S) (o : Option (Found S)) → Tells s best true o → (found : Found S) × (o ≡ Some found) × (unpacked found.packed ≡ best.plan.setups) × (found.cost ≡ best.cost)
+  tells_the_plan best (Some found) t = (found, refl, t.0, t.1)
+  tells_the_plan best None t = absurd t
 
   -- No invented count: a run begins at 0.
   count_begins_at_zero : {l l' : Lent S} {r : Run} → Starts s l (Ok r) l' → r.count ≡ 0

@@ -12,18 +12,16 @@ use Rattle.problem.specs.Bags.{Out, here, there, Same}
 use Rattle.problem.specs.Costs.{joined}
 use Rattle.problem.proofs.Naming.{setups_few}
 use Rattle.problem.proofs.Weights.{setups_some}
-use Rattle.link.specs.declared.heads.HeadSet.{HeadSet}
 use Rattle.link.specs.declared.message.Kind.TheVariants.{Request, Plan, Return}
 use Rattle.link.specs.declared.message.Message.{Message}
 use Rattle.link.specs.Messages.{message}
-use Rattle.link.specs.HeadSets.{has_head, heads_in, Picks, member, nobody}
+use Rattle.link.specs.HeadSets.{HeadSet, has_head, heads_in, Picks, member, nobody}
 use Rattle.link.proofs.Bags.{out_append, out_left, out_right, out_swap, out_both, same_refl, same_sym, same_out}
 use Rattle.head.specs.declared.best.Best.{Best}
 use Rattle.head.specs.declared.record.State.{State}
 use Rattle.head.specs.declared.record.State.TheVariants.{Resting, Gathering, Below}
 use Rattle.head.specs.declared.record.Record.{Record}
-use Rattle.head.specs.declared.setups.SetupSet.{SetupSet}
-use Rattle.head.specs.SetupSets.{first_setups, members}
+use Rattle.head.specs.SetupSets.{SetupSet, first_setups, members}
 use Rattle.head.specs.Bests.{hopeless, adopted}
 use Rattle.head.specs.Views.{View, shows, view}
 use Rattle.head.specs.Searching.{search_on}

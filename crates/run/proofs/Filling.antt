@@ -1,6 +1,6 @@
 -- Filling the front of a list, one place at a time. Assumes nothing.
-use Rattle.std.proofs.Common.{◌≡◌, ℕ, ◌+◌, ◌-◌, ◌<◌, List, [], ◌∷◌, ◌++◌, length, drop, set, replicate, sym, ap, ◌∙◌, append_assoc, arith}
-use Rattle.std.proofs.lemmas.List.{drop_more, set-append_right, replicate_more, length-replicate}
+use Rattle.std.proofs.Common.{◌≡◌, ℕ, ◌+◌, ◌-◌, ◌<◌, ◌≤◌, List, [], ◌∷◌, ◌++◌, length, take, drop, set, replicate, sym, ap, ◌∙◌, ap₂, append_assoc, arith}
+use Rattle.std.proofs.lemmas.List.{drop_more, set-append_right, replicate_more, length-replicate, length-take-le}
 
 module _ {X : Type 0} (x : X) where
   abbrev pub filled : ℕ → List X → List X
@@ -19,3 +19,7 @@ module _ {X : Type 0} (x : X) where
       ∙ ap (λ (zs : List X). replicate i x ++ zs) (set_first i xs h)
       ∙ sym (append_assoc (replicate i x) (x ∷ []) (drop (i + 1) xs))
       ∙ ap (λ (zs : List X). zs ++ drop (i + 1) xs) (replicate_more i x)
+
+  -- the front of a list, filled by itself
+  pub filled_part : (v : X) (n : ℕ) (xs ys : List X) → n ≤ length xs → ys ≡ replicate (length (take n xs)) v → v ≡ x → ys ++ drop n xs ≡ filled n xs
+  filled_part v n xs ys h e same = ap (λ (zs : List X). zs ++ drop n xs) (e ∙ ap₂ (λ (k : ℕ) (y : X). replicate k y) (length-take-le n xs h) same)

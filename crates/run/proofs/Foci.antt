@@ -9,15 +9,13 @@ use Rattle.job.specs.Plans.{setups, named, is_head, is_setup}
 use Rattle.problem.specs.Costs.{joined, against}
 use Rattle.problem.proofs.Naming.{all_counting, named_name_other}
 use Rattle.problem.proofs.Weights.{setups_some}
-use Rattle.link.specs.declared.heads.HeadSet.{HeadSet}
-use Rattle.link.specs.HeadSets.{has_head, heads_in}
+use Rattle.link.specs.HeadSets.{HeadSet, has_head, heads_in}
 use Rattle.link.proofs.Bags.{same_sym}
 use Rattle.head.specs.declared.best.Best.{Best}
 use Rattle.head.specs.declared.record.State.{State}
 use Rattle.head.specs.declared.record.State.TheVariants.{Resting, Gathering, Below}
 use Rattle.head.specs.declared.record.Record.{Record}
-use Rattle.head.specs.declared.setups.SetupSet.{SetupSet}
-use Rattle.head.specs.SetupSets.{has_setup, members}
+use Rattle.head.specs.SetupSets.{SetupSet, has_setup, members}
 use Rattle.head.specs.Views.{View, rests, shows, view, Turn, stays, becomes}
 use Rattle.head.specs.Searching.{Task}
 use Rattle.head.specs.Strays.{untried_fit, heard_fit, sender_fits, is_in_range, is_sound}

@@ -10,10 +10,10 @@ use Rattle.link.specs.declared.message.Kind.TheVariants.{Request, Report, Plan a
 use Rattle.link.specs.declared.message.Message.{Message}
 use Rattle.head.specs.declared.best.Best.{Best}
 use Rattle.head.specs.declared.record.Record.{Record}
-use Rattle.head.specs.declared.setups.SetupSet.{SetupSet}
 use Rattle.head.specs.Bests.{hopeless}
 use Rattle.head.specs.Searching.{Searched, Task, trial_plan, trial_cost, trying}
 use Rattle.head.specs.Replies.{Reply, is_last, at_least, reply}
+use Rattle.head.specs.SetupSets.{SetupSet}
 
 module _ {S : Type 0} (s : Operations S) (j : Job) (costs : List S) where
   module _ (h v : ℕ) (t : Task S) where

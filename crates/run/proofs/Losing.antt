@@ -20,8 +20,7 @@ use Rattle.link.specs.Fitting.{others_of}
 use Rattle.link.specs.Posting.{margin, loses}
 use Rattle.link.proofs.Fitting.{others_more, others_same, others_fit_beside_notices}
 use Rattle.head.specs.declared.best.Best.{Best}
-use Rattle.head.specs.declared.setups.SetupSet.{SetupSet}
-use Rattle.head.specs.SetupSets.{only_setup, without_setup, members}
+use Rattle.head.specs.SetupSets.{SetupSet, only_setup, without_setup, members}
 use Rattle.head.specs.Bests.{hopeless}
 use Rattle.head.specs.Searching.{others, Searched, trial_plan, trial_cost, found, notices_of, asks, comes_back, after, trying, search_on}
 use Rattle.run.specs.Worlds.{all_out, come_home, stops}

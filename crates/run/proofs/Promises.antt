@@ -4,7 +4,7 @@ use Rattle.job.specs.declared.refusal.Refusal.{Refusal}
 use Rattle.link.specs.declared.message.Kind.{Kind}
 use Rattle.run.specs.declared.run.Run.{Run}
 use Rattle.run.specs.declared.run.Ended.{Ended}
-use Rattle.run.specs.declared.run.Refused.{Refused}
+use Rattle.job.specs.declared.declined.Declined.{Declined}
 use Rattle.scale.specs.Operations.{Operations, Laws}
 use Rattle.head.specs.Lent.{Lent}
 use Rattle.run.specs.Worlds.{World, at}
@@ -29,13 +29,13 @@ module _ {S : Type 0} (s : Operations S) (laws : Laws s) where
     keeps = λ first k h. let h' : History s first w' (k + took a) = record { before = h.before; starts = h.starts; goes = delivers a h.goes did } in (h', every_run_stands laws _ _ _ h');
   }
 
-  left : (w : World S) (a : Result (Ended S) Refused) → Ends s w a → (first : World S) (k : ℕ) → History s first w k → Left s first k w.lent a
+  left : (w : World S) (a : Result (Ended S) (Declined Run)) → Ends s w a → (first : World S) (k : ℕ) → History s first w k → Left s first k w.lent a
   left w (Ok e) (Ends.granted en o b did) first k h =
       let whole = every_run_stands laws first w k h in
       (whole.right_end e (Ends.granted en o b did), did.count ∙ whole.counted)
   left w (Err f) did first k h =
-      let h' : History s first (at w.lent f.run) k = record { before = h.before; starts = h.starts; goes = declines_end f h.goes did } in
+      let h' : History s first (at w.lent f.back) k = record { before = h.before; starts = h.starts; goes = declines_end f h.goes did } in
       (h', every_run_stands laws _ _ _ h')
 
-  pub end_promise : (w : World S) (a : Result (Ended S) Refused) → Ends s w a → EndPromise s w a
+  pub end_promise : (w : World S) (a : Result (Ended S) (Declined Run)) → Ends s w a → EndPromise s w a
   end_promise w a did = record { does = did; keeps = λ first k h. (every_run_stands laws first w k h, left w a did first k h) }

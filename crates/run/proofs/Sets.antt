@@ -12,8 +12,8 @@ use Rattle.problem.specs.Bags.{Out, Same, one}
 use Rattle.problem.proofs.Naming.{those_passes, those_fails, those_all, out_those, all_counting, out_counting}
 use Rattle.link.specs.HeadSets.{no_heads, has_head, heads_in}
 use Rattle.link.proofs.Bags.{same_refl}
-use Rattle.head.specs.declared.setups.SetupSet.{SetupSet}
-use Rattle.head.specs.SetupSets.{has_setup, without_setup, only_setup, first_setups, members, head_of}
+use Rattle.job.specs.Sets.{first_places, head_of}
+use Rattle.head.specs.SetupSets.{SetupSet, has_setup, without_setup, only_setup, first_setups, members}
 use Rattle.head.specs.Searching.{others}
 use Rattle.head.proofs.Trying.{lowest_leaves}
 use Rattle.head.proofs.HeadSets.{has_with_same, has_with_other, heads_in_length}
@@ -53,23 +53,23 @@ module _ (p : ℕ → Bool) where
   ]
 
 -- the setups below a number
-first_length : (d : ℕ) → length (first_setups d).setups ≡ 8
-unfolding first_setups
+first_length : (d : ℕ) → length (first_setups d).members ≡ 8
+unfolding first_places
 first_length zero = refl
-first_length (suc d) = length-set (first_setups d).setups d true ∙ first_length d
+first_length (suc d) = length-set (first_setups d).members d true ∙ first_length d
 
-first_has : (d k : ℕ) → d ≤ 8 → k < d → get_or (first_setups d).setups k false ≡ true
-unfolding first_setups
+first_has : (d k : ℕ) → d ≤ 8 → k < d → get_or (first_setups d).members k false ≡ true
+unfolding first_places
 first_has zero k few lt = absurd (omega arith)
 first_has (suc d) k few lt = elim (cases_eq k d) [
-  | inl e ↦ rw e (get_or-set_same (first_setups d).setups d true false (omega (arith, first_length d)))
-  | inr ne ↦ get_or-set_other (first_setups d).setups d k true false ne ∙ first_has d k (omega arith) (omega arith)
+  | inl e ↦ rw e (get_or-set_same (first_setups d).members d true false (omega (arith, first_length d)))
+  | inr ne ↦ get_or-set_other (first_setups d).members d k true false ne ∙ first_has d k (omega arith) (omega arith)
 ]
 
-first_lacks : (d k : ℕ) → d ≤ k → get_or (first_setups d).setups k false ≡ false
-unfolding first_setups
+first_lacks : (d k : ℕ) → d ≤ k → get_or (first_setups d).members k false ≡ false
+unfolding first_places
 first_lacks zero k le = elim (cases_lt k 8) [ inl lt ↦ get_or-replicate 8 k false false lt | inr ge ↦ get_or_past (replicate 8 false) k false ge ]
-first_lacks (suc d) k le = get_or-set_other (first_setups d).setups d k true false (omega arith) ∙ first_lacks d k (omega arith)
+first_lacks (suc d) k le = get_or-set_other (first_setups d).members d k true false (omega arith) ∙ first_lacks d k (omega arith)
 
 pub members_of_first : (d : ℕ) → d ≤ 8 → members (first_setups d) ≡ range_with_len 0 d
 members_of_first d few =

@@ -10,8 +10,7 @@ use Rattle.link.specs.declared.message.Message.{Message}
 use Rattle.link.specs.HeadSets.{heads_in}
 use Rattle.link.proofs.Bags.{same_refl}
 use Rattle.head.specs.declared.best.Best.{Best}
-use Rattle.head.specs.declared.setups.SetupSet.{SetupSet}
-use Rattle.head.specs.SetupSets.{without_setup, members}
+use Rattle.head.specs.SetupSets.{SetupSet, without_setup, members}
 use Rattle.head.specs.Bests.{hopeless}
 use Rattle.head.specs.Views.{View, rests}
 use Rattle.head.specs.Searching.{asks as asks_others, Searched, found, notices_of, after, trying}

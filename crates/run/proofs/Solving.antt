@@ -8,7 +8,7 @@ use Rattle.link.specs.declared.message.Message.{Message}
 use Rattle.head.specs.declared.record.Record.{Record}
 use Rattle.run.specs.declared.run.Run.{Run}
 use Rattle.run.specs.declared.run.Ended.{Ended}
-use Rattle.run.specs.declared.run.Refused.{Refused}
+use Rattle.job.specs.declared.declined.Declined.{Declined}
 use Rattle.scale.specs.Operations.{Operations, Laws}
 use Rattle.head.specs.Views.{Turn, becomes, Turned}
 use Rattle.head.specs.Lent.{Lent, Enough}
@@ -70,7 +70,7 @@ module _ {S : Type 0} (s : Operations S) where
         omega (arith, one, was.counted, now.counted, now.limited, same)
 
     -- a quiet run is not refused its end
-    pub quiet_ends : {first w : World S} {k : ℕ} (f : Refused) → History s first w k → w.lent.bag ≡ [] → Ends s w (Err f) → ⊥
+    pub quiet_ends : {first w : World S} {k : ℕ} (f : Declined Run) → History s first w k → w.lent.bag ≡ [] → Ends s w (Err f) → ⊥
     quiet_ends {first} {w} {k} f h quiet did = false≢true (((every_run_stands laws first w k h).ends_when_quiet (Err f) did).1 quiet)
 
     pub solved : (l : Lent S) (first w : World S) (k : ℕ) (e : Ended S) → Starts s l (Ok first.run) first.lent → History s first w k → EndPromise s w (Ok e) →

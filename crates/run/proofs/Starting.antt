@@ -25,8 +25,8 @@ drop_past n xs ys h =
     ∙ ap (drop (n - length xs)) (drop-append-le (length xs) xs ys (omega arith) ∙ ap (λ (zs : List _). zs ++ ys) (drop_all (length xs) xs (omega arith)))
 
 -- the row of head 1 rests
-pub ready_row : {S : Type 0} (s : Operations S) (costs : List S) (recs xs : List (Record S)) → 1792 ≤ length costs → recs ≡ filled (blank s) 64 xs → ReadyToBegin s costs (take 8 recs)
-ready_row s costs recs xs room e = subst (λ (rs : List (Record _)). ReadyToBegin s costs (take 8 rs)) (sym e) (record { room = room; long = refl; at_rest = λ k lt. ap view (get_or-replicate 8 k (blank s) (blank s) lt) })
+pub ready_row : {S : Type 0} (s : Operations S) (recs xs : List (Record S)) → recs ≡ filled (blank s) 64 xs → ReadyToBegin s (take 8 recs)
+ready_row s recs xs e = subst (λ (rs : List (Record _)). ReadyToBegin s (take 8 rs)) (sym e) (record { long = refl; at_rest = λ k lt. ap view (get_or-replicate 8 k (blank s) (blank s) lt) })
 
 module _ {S : Type 0} (s : Operations S) (l : Lent S) (recs row : List (Record S)) (bests : List (Best S)) (first b : Best S) (out limit' : ℕ) (bag' : List (Message S))
     (enough : Enough l) (wide : margin ≤ l.limit) (none : l.bag ≡ [])

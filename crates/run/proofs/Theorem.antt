@@ -25,7 +25,7 @@ use Rattle.searches.proofs.Moves.{moves_keep, moves_improve, moves_count}
 use Rattle.searches.proofs.Promises.{one_is_a_head, few_messages, promised}
 use Rattle.run.specs.declared.run.Run.{Run}
 use Rattle.run.specs.declared.run.Ended.{Ended}
-use Rattle.run.specs.declared.run.Refused.{Refused}
+use Rattle.job.specs.declared.declined.Declined.{Declined}
 use Rattle.run.specs.Worlds.{World, at}
 use Rattle.run.specs.Starting as Starting
 use Rattle.run.specs.Delivering.{Delivered, Strays, Delivers}
@@ -90,7 +90,7 @@ module _ {S : Type 0} {π : Problem S} (law : Lawful π) (limit : ℕ) (margin_f
         counted_as (omega arith) (record { state = c.state; moves = c.moves; mirrors = c.mirrors })
 
     -- a declined end leaves the moment as it was
-    declined : {w : World S} (f : Refused) → Ends π.scale w (Err f) → at w.lent f.run ≡ w
+    declined : {w : World S} (f : Declined Run) → Ends π.scale w (Err f) → at w.lent f.back ≡ w
     declined {w = w} f (Ending.too_little n lacks e) = ap (at w.lent) e
     declined {w = w} f (Ending.still_out n enough some e) = ap (at w.lent) e
 
@@ -148,7 +148,7 @@ module _ {S : Type 0} {π : Problem S} (law : Lawful π) (limit : ℕ) (margin_f
           let d = goes_on keeps stay c.mirrors after in
           rw (d.mirrors.bests h head, c.mirrors.bests h head) (moves_improve law limit margin_fits d.moves keeps h)
 
-      ends_when_quiet : (answer : Result (Ended S) Refused) → Ends π.scale now answer → (is_ok answer ≡ true) ↔ (bag ≡ [])
+      ends_when_quiet : (answer : Result (Ended S) (Declined Run)) → Ends π.scale now answer → (is_ok answer ≡ true) ↔ (bag ≡ [])
       ends_when_quiet (Err f) (Ending.too_little n lacks e) = absurd (enough_lacks_nothing now.lent mirrors.enough lacks)
       ends_when_quiet (Err f) (Ending.still_out n enough some e) = (λ no. absurd (true≢false (sym no)), λ z. absurd (still z some))
         where
@@ -157,7 +157,7 @@ module _ {S : Type 0} {π : Problem S} (law : Lawful π) (limit : ℕ) (margin_f
           still z (inr k) = omega (arith, ap length z)
       ends_when_quiet (Ok e) (Ending.granted enough none_left nothing_waits closes) = (λ _. nothing_waits, λ _. refl)
 
-      one_waits : (ms : List (Message S)) → bag ≡ ms → (f : Refused) → Ends π.scale now (Err f) → (m : Message S) × (rest : List (Message S)) × Out m ms rest
+      one_waits : (ms : List (Message S)) → bag ≡ ms → (f : Declined Run) → Ends π.scale now (Err f) → (m : Message S) × (rest : List (Message S)) × Out m ms rest
       one_waits [] z f e = absurd (true≢false (sym ((ends_when_quiet (Err f) e).1 z)))
       one_waits (m ∷ rest) z f e = (m, rest, here)
 

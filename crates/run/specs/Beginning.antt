@@ -1,5 +1,5 @@
 -- What the code that begins the searches asks and tells, in terms of the definitions. Assumes nothing.
-use Rattle.std.specs.Prelude.{◌≡◌, ℕ, ◌<◌, ◌≤◌, Bool, List, length, slice_index_or}
+use Rattle.std.specs.Prelude.{◌≡◌, ℕ, ◌<◌, Bool, List, length, slice_index_or}
 use Rattle.std.specs.List.{range_with_len}
 use Rattle.scale.specs.Operations.{Operations}
 use Rattle.job.specs.declared.job.Job.{Job}
@@ -31,9 +31,8 @@ module _ {S : Type 0} (s : Operations S) where
     heard = no_heads;
   }
 
-  -- all costs are there, and the row of head 1 rests
-  pub record ReadyToBegin (costs : List S) (row : List (Record S)) : Type 0 where
-    pub room : 1792 ≤ length costs
+  -- the row of head 1 rests
+  pub record ReadyToBegin (row : List (Record S)) : Type 0 where
     pub long : length row ≡ 8
     pub at_rest : (k : ℕ) → k < 8 → view (slice_index_or row k (blank s)) ≡ rests
 

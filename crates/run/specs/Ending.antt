@@ -1,13 +1,12 @@
 -- What look and end do, exactly. Assumes nothing.
-use Rattle.std.specs.Prelude.{◌≡◌, ℕ, zero, suc, ◌/◌, ◌%◌, ◌<◌, Bool, true, false, ◌⊎◌, List, [], ◌∷◌, length, Ok, Err, Result, count_ones}
+use Rattle.std.specs.Prelude.{◌≡◌, ℕ, zero, suc, ◌/◌, ◌%◌, ◌<◌, Bool, true, false, ◌⊎◌, List, [], ◌∷◌, length, Some, None, Ok, Err, Option, Result, count_ones}
 use Rattle.link.specs.declared.message.Message.{Message}
 use Rattle.head.specs.declared.best.Best.{Best}
 use Rattle.run.specs.declared.run.Run.{Run}
 use Rattle.run.specs.declared.run.Seen.{Seen}
-use Rattle.run.specs.declared.run.Outcome.{Outcome}
-use Rattle.run.specs.declared.run.Outcome.TheVariants.{Found, NoPlan}
+use Rattle.run.specs.declared.run.Found.{Found}
 use Rattle.run.specs.declared.run.Ended.{Ended}
-use Rattle.run.specs.declared.run.Refused.{Refused}
+use Rattle.job.specs.declared.declined.Declined.{Declined}
 use Rattle.job.specs.Refusals.{number}
 use Rattle.job.specs.Plans.{is_complete}
 use Rattle.head.specs.Lent.{Enough, Lacks, best_of}
@@ -30,11 +29,11 @@ module _ {S : Type 0} (s : Operations S) where
     pub count : seen.count ≡ run.count
 
   -- head 1's best plan and cost, or no plan if that is incomplete
-  abbrev pub Tells : Best S → Bool → Outcome S → Type 0
-  Tells best true (Found packed cost) = (unpacked packed ≡ best.plan.setups) × (cost ≡ best.cost)
-  Tells best true NoPlan = ⊥
-  Tells best false (Found packed cost) = ⊥
-  Tells best false NoPlan = Unit {0}
+  abbrev pub Tells : Best S → Bool → Option (Found S) → Type 0
+  Tells best true (Some found) = (unpacked found.packed ≡ best.plan.setups) × (found.cost ≡ best.cost)
+  Tells best true None = ⊥
+  Tells best false (Some found) = ⊥
+  Tells best false None = Unit {0}
 
   pub record Closes (w : World S) (e : Ended S) : Type 0 where
     pub heads : e.heads ≡ w.lent.job.heads
@@ -42,7 +41,7 @@ module _ {S : Type 0} (s : Operations S) where
     pub outcome : Tells (best_of s w.lent 1) (is_complete w.lent.job (best_of s w.lent 1).plan) e.outcome
 
   -- Nothing that is lent moves; a refusal hands the run back.
-  pub data Ends (w : World S) : Result (Ended S) Refused → Type 0 where
-    too_little : {f : Refused} → number f.refusal ≡ 7 → Lacks w.lent → f.run ≡ w.run → Ends w (Err f)
-    still_out : {f : Refused} → number f.refusal ≡ 14 → Enough w.lent → (0 < w.run.out) ⊎ (0 < length w.lent.bag) → f.run ≡ w.run → Ends w (Err f)
+  pub data Ends (w : World S) : Result (Ended S) (Declined Run) → Type 0 where
+    too_little : {f : Declined Run} → number f.refusal ≡ 7 → Lacks w.lent → f.back ≡ w.run → Ends w (Err f)
+    still_out : {f : Declined Run} → number f.refusal ≡ 14 → Enough w.lent → (0 < w.run.out) ⊎ (0 < length w.lent.bag) → f.back ≡ w.run → Ends w (Err f)
     granted : {e : Ended S} → Enough w.lent → w.run.out ≡ 0 → w.lent.bag ≡ [] → Closes w e → Ends w (Ok e)

@@ -2,8 +2,9 @@
 use Rattle.std.specs.Prelude.{ℕ, ◌+◌, cond, ◌||◌, Ok, Err, Result, ◌==◌}
 use Rattle.job.specs.declared.refusal.Refusal.{Refusal}
 use Rattle.link.specs.declared.message.Kind.{Kind}
+use Rattle.run.specs.declared.run.Run.{Run}
 use Rattle.run.specs.declared.run.Seen.{Seen}
-use Rattle.run.specs.declared.run.Refused.{Refused}
+use Rattle.job.specs.declared.declined.Declined.{Declined}
 use Rattle.job.specs.Refusals.{number}
 use Rattle.scale.specs.Operations.{Operations}
 use Rattle.head.specs.Lent.{Lent}
@@ -23,7 +24,7 @@ module _ {S : Type 0} (s : Operations S) where
     stays : {w : World S} → Goes w w 0
     delivers : {u w w' : World S} {k : ℕ} (answer : Result Kind Refusal) → Goes u w k → Delivers s w answer w' → Goes u w' (k + took answer)
     looks : {u w : World S} {k : ℕ} (seen : Seen) → Goes u w k → Looks s w.run w.lent.bag seen → Goes u w k
-    declines_end : {u w : World S} {k : ℕ} (f : Refused) → Goes u w k → Ends s w (Err f) → Goes u (at w.lent f.run) k
+    declines_end : {u w : World S} {k : ℕ} (f : Declined Run) → Goes u w k → Ends s w (Err f) → Goes u (at w.lent f.back) k
 
   -- `History first w k`: a granted start left `first`, and calls lead from there to w, having taken k messages.
   pub record History (first w : World S) (k : ℕ) : Type 0 where

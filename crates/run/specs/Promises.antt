@@ -6,7 +6,7 @@ use Rattle.link.specs.declared.message.Message.{Message}
 use Rattle.run.specs.declared.run.Run.{Run}
 use Rattle.run.specs.declared.run.Seen.{Seen}
 use Rattle.run.specs.declared.run.Ended.{Ended}
-use Rattle.run.specs.declared.run.Refused.{Refused}
+use Rattle.job.specs.declared.declined.Declined.{Declined}
 use Rattle.head.specs.Lent.{Lent}
 use Rattle.run.specs.Worlds.{World, at}
 use Rattle.run.specs.Starting.{Starts}
@@ -30,11 +30,11 @@ module _ {S : Type 0} (s : Operations S) where
     pub keeps : (first w : World S) (k : ℕ) → w.run ≡ run → w.lent.bag ≡ bag → History s first w k → Whole s first w k × (seen.count ≡ k)
 
   -- what an end leaves of a run: the run again, or what it came to
-  abbrev pub Left : World S → ℕ → Lent S → Result (Ended S) Refused → Type 0
+  abbrev pub Left : World S → ℕ → Lent S → Result (Ended S) (Declined Run) → Type 0
   Left first k l (Ok e) = Right s l.costs l.job e.outcome × (e.count ≡ k)
-  Left first k l (Err f) = History s first (at l f.run) k × Whole s first (at l f.run) k
+  Left first k l (Err f) = History s first (at l f.back) k × Whole s first (at l f.back) k
 
-  pub record EndPromise (w : World S) (answer : Result (Ended S) Refused) : Type 0 where
+  pub record EndPromise (w : World S) (answer : Result (Ended S) (Declined Run)) : Type 0 where
     pub does : Ends s w answer
     pub keeps : (first : World S) (k : ℕ) → History s first w k → Whole s first w k × Left first k w.lent answer
 

@@ -1,14 +1,14 @@
 -- What is promised of whole runs. Assumes nothing.
-use Rattle.std.specs.Prelude.{◌≡◌, ℕ, ◌+◌, ◌-◌, ◌*◌, ◌≤◌, true, ◌⊎◌, ◌↔◌, List, [], is_ok, Ok, Err, Result}
+use Rattle.std.specs.Prelude.{◌≡◌, ℕ, ◌+◌, ◌-◌, ◌*◌, ◌≤◌, true, ◌⊎◌, ◌↔◌, List, [], is_ok, Some, None, Ok, Err, Option, Result}
 use Rattle.job.specs.declared.refusal.Refusal.{Refusal}
 use Rattle.job.specs.declared.job.Job.{Job}
 use Rattle.job.specs.declared.plan.Plan.{Plan}
 use Rattle.link.specs.declared.message.Message.{Message}
 use Rattle.head.specs.declared.best.Best.{Best}
-use Rattle.run.specs.declared.run.Outcome.{Outcome}
-use Rattle.run.specs.declared.run.Outcome.TheVariants.{Found, NoPlan}
+use Rattle.run.specs.declared.run.Found.{Found}
+use Rattle.run.specs.declared.run.Run.{Run}
 use Rattle.run.specs.declared.run.Ended.{Ended}
-use Rattle.run.specs.declared.run.Refused.{Refused}
+use Rattle.job.specs.declared.declined.Declined.{Declined}
 use Rattle.scale.specs.Operations.{Operations, AtMost}
 use Rattle.problem.specs.Bags.{Out}
 use Rattle.job.specs.Plans.{is_head, plans, empty, Complete}
@@ -38,9 +38,9 @@ module _ {S : Type 0} (s : Operations S) where
     Stands b = (Complete j b.plan × (b.cost ≡ plan_cost s costs j b.plan)) ⊎ ((b.plan ≡ empty) × (b.cost ≡ s.never))
 
     -- A cheapest plan and its cost, not all being never; or no plan, all being never.
-    abbrev pub Right : Outcome S → Type 0
-    Right (Found packed cost) = (p : Plan) × (p.setups ≡ unpacked packed) × Complete j p × (cost ≡ plan_cost s costs j p) × NoneCheaper cost × (AllNever → ⊥)
-    Right NoPlan = AllNever
+    abbrev pub Right : Option (Found S) → Type 0
+    Right (Some found) = (p : Plan) × (p.setups ≡ unpacked found.packed) × Complete j p × (found.cost ≡ plan_cost s costs j p) × NoneCheaper found.cost × (AllNever → ⊥)
+    Right None = AllNever
 
   -- What holds after any calls of a run: `first` is the moment just after its start, w is now, k messages were taken.
   pub record Whole (first w : World S) (k : ℕ) : Type 0 where
@@ -50,8 +50,8 @@ module _ {S : Type 0} (s : Operations S) where
     pub never_raised : (u : World S) (i o : ℕ) → Goes s first u i → Goes s u w o → (h : ℕ) → is_head w.lent.job h ≡ true →
         AtMost s (best_of s w.lent h).cost (best_of s u.lent h).cost
     -- End is granted exactly when no message waits; while it is refused, a message waits.
-    pub ends_when_quiet : (answer : Result (Ended S) Refused) → Ends s w answer → (is_ok answer ≡ true) ↔ (w.lent.bag ≡ [])
-    pub refused_while_one_waits : (f : Refused) → Ends s w (Err f) → (m : Message S) × (rest : List (Message S)) × Out m w.lent.bag rest
+    pub ends_when_quiet : (answer : Result (Ended S) (Declined Run)) → Ends s w answer → (is_ok answer ≡ true) ↔ (w.lent.bag ≡ [])
+    pub refused_while_one_waits : (f : Declined Run) → Ends s w (Err f) → (m : Message S) × (rest : List (Message S)) × Out m w.lent.bag rest
     -- Then all heads have the same best plan and cost, and every complete plan costs at least that.
     pub agreed : w.lent.bag ≡ [] → (h : ℕ) → is_head w.lent.job h ≡ true → best_of s w.lent h ≡ best_of s w.lent 1
     pub cheapest : w.lent.bag ≡ [] → NoneCheaper w.lent.costs w.lent.job (best_of s w.lent 1).cost

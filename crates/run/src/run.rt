@@ -1,6 +1,4 @@
 // A run, and what it comes to.
-use job::refusal::Refusal;
-
 // A run under way: search v is out where bit v of `out` is set; `count` messages were taken. It is neither copied nor let go, so
 // that no plan is read from it: only `end` leads on.
 pub struct Run {
@@ -16,26 +14,19 @@ pub struct Seen {
     pub count: u64,
 }
 
-// What a run came to: a cheapest plan, packed in one number with the setup of head h in byte h - 1, the least byte first, and its
-// cost; or no plan.
+// A cheapest plan, packed in one number with the setup of head h in byte h - 1, the least byte first, and its cost.
 #[derive(Clone, Copy)]
-pub enum Outcome<S> {
-    Found { packed: u64, cost: S },
-    NoPlan,
+pub struct Found<S> {
+    pub packed: u64,
+    pub cost: S,
 }
 
-// A run that has ended: of how many heads, after how many messages, and with what.
+// A run that has ended: of how many heads, after how many messages, and with what, or no plan.
 #[derive(Drop)]
 pub struct Ended<S> {
     heads: u8,
     count: u64,
-    outcome: Outcome<S>,
-}
-
-// An end that was declined hands the run back.
-pub struct Refused {
-    pub run: Run,
-    pub refusal: Refusal,
+    outcome: Option<Found<S>>,
 }
 
 pub mod deliver;

@@ -81,6 +81,9 @@ clashes_back x = elim (written_numbers x) [
 pub clashes_coded : Coded clashes clashes_coding
 clashes_coded = record { some = omega arith; few = omega arith; long = long; back = clashes_back; all_ff = refl }
 
+pub clashes_wide : 6 ≡ clashes_coding.width
+clashes_wide = refl
+
 -- two bytes that write the number u and four that write v
 module _ (l : List ℕ) (u v : ℕ) (is : two u ++ four v ≡ l) where
   pub read_never : (x : Clashes) → x ≡ clashes.never → u ≡ 65535 → v ≡ 4294967295 → Some x ≡ reading clashes_coding l

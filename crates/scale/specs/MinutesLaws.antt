@@ -52,6 +52,9 @@ minutes_back x = elim (written_number x) [
 pub minutes_coded : Coded minutes minutes_coding
 minutes_coded = record { some = omega arith; few = omega arith; long = long; back = minutes_back; all_ff = refl }
 
+pub minutes_wide : 4 ≡ minutes_coding.width
+minutes_wide = refl
+
 -- four bytes l that write the number v
 module _ (l : List ℕ) (v : ℕ) (is : four v ≡ l) where
   pub read_never : (x : Minutes) → x ≡ minutes.never → v ≡ 4294967295 → Some x ≡ reading minutes_coding l

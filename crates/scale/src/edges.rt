@@ -33,40 +33,15 @@ fn fill<S: Scale>(cost: S, bytes: &mut [u8])
     let _ = cost.write(bytes);
 }
 
-// The same as `written_and_read` for bytes that are known to be the cost's.
-fn reads_back_known<S: Scale>(cost: S, bytes: &[u8]) -> Option<S>
-    requires { bytes.now ≡ S.Scale.coding.bytes cost }
-    ensures value { result ≡ Some cost }
-    ensures every { ReadsBack S.Scale.coding }
-{
-    S::read(bytes)
-}
-
 // A cost that is written and read again: the bytes that are written of a cost read as that cost, on every scale.
 pub fn written_and_read<S: Scale>(cost: S) -> Option<S>
     ensures value { result ≡ Some cost }
     ensures every { ReadsBack S.Scale.coding }
 {
     let mut buffer = [0; 6];
-    let bytes = &mut buffer[0..S::byte_count()];
+    let bytes = &mut buffer[..S::WIDTH];
     fill(cost, bytes);
-    reads_back_known(cost, bytes)
-}
-
-fn minutes_stop(most: Minutes, one: Minutes) -> Minutes
-    requires { (most.value ≡ 999999999) × (one.value ≡ 1) }
-    ensures value { result ≡ minutes_scale.never }
-    ensures stop { MinutesStop }
-{
-    most.join(one)
-}
-
-fn clashes_stop(most: Clashes, one: Clashes) -> Clashes
-    requires { (most.clashes ≡ 999) × (one.clashes ≡ 1) }
-    ensures value { result ≡ clashes_scale.never }
-    ensures stop { ClashesStop }
-{
-    most.join(one)
+    S::read(bytes)
 }
 
 // 999,999,999 minutes joined with 1 are never, and so are 999 clashes joined with 1.
@@ -75,8 +50,8 @@ pub fn sums_past_the_most() -> Option<(Minutes, Clashes)>
     ensures minutes { MinutesStop }
     ensures clashes { ClashesStop }
 {
-    let minutes = minutes_stop(Minutes::new(999_999_999)?, Minutes::new(1)?);
-    let clashes = clashes_stop(Clashes::new(999, 0)?, Clashes::new(1, 0)?);
+    let minutes = Minutes::new(999_999_999)?.join(Minutes::new(1)?);
+    let clashes = Clashes::new(999, 0)?.join(Clashes::new(1, 0)?);
     Some((minutes, clashes))
 }
 

@@ -1,8 +1,8 @@
 // Minutes of rethreading.
 ghost use Rattle.std.specs.Prelude.{◌≤◌};
 
-// 0 to 1,000,000,000 minutes; the last is never.
-#[derive(Clone, Copy)]
+// 0 to 1,000,000,000 minutes; the last is never. Fewer are cheaper.
+#[derive(Clone, Copy, Debug, PartialEq, Eq, PartialOrd, Ord)]
 pub struct Minutes {
     value: u32,
     ghost ok: { value ≤ 1000000000 },

@@ -1,5 +1,5 @@
 // A scale is a kind of cost. Everything above is generic over it and uses only what this trait promises.
-ghost use Rattle.std.specs.Prelude.{◌≡◌};
+ghost use Rattle.std.specs.Prelude.{◌≡◌, ℕ};
 ghost use Rattle.scale.specs.Operations.{Operations, Laws};
 ghost use Rattle.scale.specs.Coding.{Coding, Coded, reading, written, writing};
 
@@ -10,11 +10,10 @@ pub trait Scale: Copy {
     // number, width, bytes
     ghost coding: { Coding Self };
 
-    // How many bytes an entry has. Generic code asks `byte_count`, whose promise a proof can cite.
-    const WIDTH: usize;
+    // how many bytes an entry has
+    ghost WIDTH: { ℕ };
 
-    fn byte_count() -> usize
-        ensures { result ≡ coding.width };
+    const WIDTH: usize;
 
     // The scale's number in the first line of a sheet.
     fn number() -> u8
@@ -48,4 +47,6 @@ pub trait Scale: Copy {
     ghost lawful: { Laws scale };
 
     ghost coded: { Coded scale coding };
+
+    ghost wide: { WIDTH ≡ coding.width };
 }

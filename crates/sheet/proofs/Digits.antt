@@ -1,15 +1,15 @@
--- The bytes that digits write, one at a time. Assumes nothing.
-use Rattle.std.proofs.Common.{◌≡◌, ℕ, zero, suc, ◌+◌, ◌*◌, ◌<◌, List, [], ◌∷◌, length, get_or, refl, ap, arith}
+-- The bytes that digits write, two by two. Assumes nothing.
+use Rattle.std.proofs.Common.{◌≡◌, ℕ, zero, suc, ◌*◌, ◌<◌, ◌≤◌, List, [], ◌∷◌, length, get_or, refl, ap, arith}
+use Rattle.std.specs.Simd.{first_chunks}
 use Rattle.sheet.specs.Hex.{byte, bytes}
 
-pub bytes_at : (ds : List ℕ) (i : ℕ) → 2 * i + 1 < length ds → get_or (bytes ds) i 0 ≡ byte (get_or ds (2 * i) 0) (get_or ds (2 * i + 1) 0)
-bytes_at [] i h = absurd (omega arith)
-bytes_at (d ∷ []) i h = absurd (omega arith)
-bytes_at (d ∷ e ∷ ds) zero h = refl
-bytes_at (d ∷ e ∷ ds) (suc i) h =
-    let even : 2 * suc i ≡ suc (suc (2 * i)) = omega arith in
-    let odd : 2 * suc i + 1 ≡ suc (suc (2 * i + 1)) = omega arith in
-    rw (odd, even) (bytes_at ds i (omega arith))
+pub byte_of_pair : (n i : ℕ) (ds : List ℕ) → i < n → 2 * n ≤ length ds →
+    byte (get_or (get_or (first_chunks 2 n ds) i []) 0 0) (get_or (get_or (first_chunks 2 n ds) i []) 1 0) ≡ get_or (bytes ds) i 0
+byte_of_pair zero i ds lt room = absurd (omega arith)
+byte_of_pair (suc n) i [] lt room = absurd (omega arith)
+byte_of_pair (suc n) i (d ∷ []) lt room = absurd (omega arith)
+byte_of_pair (suc n) zero (d ∷ e ∷ ds) lt room = refl
+byte_of_pair (suc n) (suc i) (d ∷ e ∷ ds) lt room = byte_of_pair n i ds (omega arith) (omega arith)
 
 pub bytes_length : (ds : List ℕ) (n : ℕ) → length ds ≡ 2 * n → length (bytes ds) ≡ n
 bytes_length [] n h = omega arith

@@ -1,5 +1,5 @@
 -- What the answer of `of_line` says. Assumes nothing.
-use Rattle.std.proofs.Common.{◌≡◌, ℕ, true, false, cond, List, Some, None, ◌∙◌, inl, inr, arith}
+use Rattle.std.proofs.Common.{◌≡◌, ℕ, true, cond, List, Some, None, ◌∙◌, inl, inr, arith}
 use Rattle.std.proofs.lemmas.Bool.{cases_Bool, cond-true, cond-false}
 use Rattle.sheet.specs.Lines.{is_line}
 use Rattle.sheet.specs.Frames.{Said, frame_of}
@@ -8,10 +8,4 @@ pub framed_some : (l : List ℕ) (f : Said) → Some f ≡ cond (is_line l) (Som
 framed_some l f e = elim (cases_Bool (is_line l)) [
   | inl y ↦ (y, let z : Some f ≡ Some (frame_of l) = e ∙ cond-true _ _ _ y in cc)
   | inr n ↦ absurd (let z : Some f ≡ None = e ∙ cond-false _ _ _ n in let o : ◌≡◌ {A = ℕ} 0 1 = cc in omega arith)
-]
-
-pub framed_none : (l : List ℕ) → None ≡ cond (is_line l) (Some (frame_of l)) None → is_line l ≡ false
-framed_none l e = elim (cases_Bool (is_line l)) [
-  | inl y ↦ absurd (let z : None ≡ Some (frame_of l) = e ∙ cond-true _ _ _ y in let o : ◌≡◌ {A = ℕ} 0 1 = cc in omega arith)
-  | inr n ↦ n
 ]

@@ -1,9 +1,9 @@
 -- Where the entries of a granted sheet stand: a sheet that is read keeps all rules, so no pair has a second table, and what one
 -- table fills no other does. Assumes nothing.
-use Rattle.std.proofs.Common.{◌≡◌, ℕ, zero, suc, ◌+◌, ◌-◌, ◌*◌, ◌<◌, ◌≤◌, Bool, true, false, List, [], ◌∷◌, ◌++◌, length, get_or, take, drop, set, replicate, is_some, Some, Ok, Err, Result, sym, refl, ap, ◌∙◌, inl, inr, arith}
+use Rattle.std.proofs.Common.{◌≡◌, ℕ, zero, suc, ◌+◌, ◌-◌, ◌*◌, ◌<◌, ◌≤◌, Bool, true, false, List, [], ◌∷◌, ◌++◌, length, get_or, take, drop, set, replicate, is_some, Some, Ok, Err, Result, sym, refl, ap, ◌∙◌, ap₂, inl, inr, arith}
 use Rattle.std.proofs.lemmas.Nat.{mul-add-lt}
 use Rattle.std.proofs.lemmas.List.{length-set, length-replicate, get_or-set_same, get_or-set_other, get_or-replicate, get_or_append_left, drop_at}
-use Rattle.std.proofs.lemmas.Bool.{both_ways, and_parts, cases_eq, leb-true, ltb-true}
+use Rattle.std.proofs.lemmas.Bool.{both_ways, and_parts, cases_eq, cond-true, leb-true, ltb-true}
 use Rattle.scale.specs.Operations.{Operations}
 use Rattle.scale.specs.Coding.{Coding}
 use Rattle.problem.specs.Bags.{Out, here, there}
@@ -23,7 +23,8 @@ use Rattle.sheet.specs.declared.read.Contents.{Contents}
 use Rattle.sheet.specs.Lines.{lines}
 use Rattle.sheet.specs.Frames.{Said, opening, head, table, end, misshapen, unknown, kind, frame_of}
 use Rattle.sheet.specs.Tables.{entry, table_laid}
-use Rattle.sheet.specs.Steps.{start, due_kind, due, setups_of, line_read, frame_laid}
+use Rattle.sheet.specs.Steps.{start, due_kind, due, setups_of, shape, line_read, frame_laid}
+use Rattle.sheet.specs.Fillings.{digits_said, digits_in, shape_said, shaped_laid, lines_filled}
 use Rattle.sheet.specs.Sheets.{onward, lines_read, sheet_read, lines_laid, sheet_laid, Tells, Reads, too_little, too_long, refused, granted}
 use Rattle.sheet.specs.Judgements.{fits, Changes, opens, knows, has_table, ends, Goes, stays, goes, LaidOut, LaysOut}
 use Rattle.sheet.proofs.Fills.{table_length, table_other, table_at}
@@ -186,6 +187,26 @@ module _ {S : Type 0} (c : Coding S) (p : Progress) (told : Contents) (tells : T
       let r = first_read c n s l ls p h in
       let k = line_kept c s l r.next r.first in
       rw r.first (line_lays xs _ refl k.is_due k.in_range k.changes (lines_kept c (n + 1) r.next ls p r.others) (lines_lay (n + 1) r.next ls (frame_laid c s (frame_of l) xs) r.others))
+
+-- and fills, by what is known at its end, what its lines lay out one after the other
+module _ {S : Type 0} (c : Coding S) (p : Progress) where
+  line_fills : {s t : Progress} {f : Said} {ls : List (List ℕ)} (xs : List S) → due s.stage (kind f) ≡ true → fits c s f ≡ true → Changes c s f t → Goes c t ls p →
+      shaped_laid c (digits_said f) (shape_said c p f) xs ≡ frame_laid c s f xs
+  line_fills xs h fit opens then = refl
+  line_fills xs h fit knows then = refl
+  line_fills {s = s} xs h fit (has_table {a} {b} {ds} fresh all) then =
+      let same = settled c (table_late s.stage h) then in
+      let by = λ (heads : ℕ) (setups : List ℕ). shape c (record { stage = s.stage; heads = heads; known = 0; setups = setups; tables = s.tables }) a b ds in
+      ap (λ o. shaped_laid c ds o xs) (ap₂ by (sym same.0) (sym same.1) ∙ cond-true _ _ _ fit)
+  line_fills xs h fit ends then = refl
+
+  pub lines_fill : (n : ℕ) (s : Progress) (ls : List (List ℕ)) (xs : List S) → lines_read c n s ls ≡ Ok p → lines_filled c p ls xs ≡ lines_laid c s ls xs
+  lines_fill n s [] xs h = refl
+  lines_fill n s (l ∷ ls) xs h =
+      let r = first_read c n s l ls p h in
+      let k = line_kept c s l r.next r.first in
+      let one = ap (λ o. shaped_laid c (digits_in l) o xs) (cond-true _ _ _ k.is_a_line) ∙ line_fills {f = frame_of l} xs k.is_due k.in_range k.changes (lines_kept c (n + 1) r.next ls p r.others) in
+      rw r.first (ap (lines_filled c p ls) one ∙ lines_fill (n + 1) r.next ls (frame_laid c s (frame_of l) xs) r.others)
 
 pub laid_out : {S : Type 0} (s : Operations S) (c : Coding S) (sheet : List ℕ) (p : Progress) (told : Contents) (before after : List S) →
     sheet_read c sheet ≡ Ok p → Tells p told → after ≡ sheet_laid c sheet (replicate 1792 s.nothing) ++ drop 1792 before →

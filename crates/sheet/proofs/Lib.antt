@@ -1,3 +1,4 @@
+pub mod Counts
 pub mod Digits
 pub mod Entries
 pub mod Fills
@@ -5,4 +6,3 @@ pub mod Framed
 pub mod Judges
 pub mod LaidOut
 pub mod Lines
-pub mod Shapes

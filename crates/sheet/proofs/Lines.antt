@@ -1,15 +1,13 @@
 -- The lines of a sheet, one after the other. Assumes nothing.
-use Rattle.std.proofs.Common.{◌≡◌, ℕ, suc, ◌+◌, ◌<◌, true, false, eqb, List, [], ◌∷◌, length, take, drop, Ok, Err, Result, sym, ap, ◌∙◌, ap₂, inl, inr, arith}
-use Rattle.std.proofs.lemmas.List.{nil_from_length}
+use Rattle.std.proofs.Common.{◌≡◌, ℕ, suc, ◌+◌, ◌<◌, ◌≤◌, true, false, eqb, List, [], ◌∷◌, length, take, drop, Ok, Err, Result, sym, ap, ◌∙◌, ap₂, inl, inr, arith}
 use Rattle.std.proofs.lemmas.Bool.{cases_Bool, cond-true, cond-false}
 use Rattle.sheet.specs.Lines.{onto, lines, line_length}
 use Rattle.scale.specs.Coding.{Coding}
 use Rattle.sheet.specs.declared.breach.Breach.{Breach}
 use Rattle.sheet.specs.declared.breach.Breach.TheVariants.{NotDue}
 use Rattle.sheet.specs.declared.progress.Progress.{Progress}
-use Rattle.sheet.specs.Frames.{frame_of}
-use Rattle.sheet.specs.Steps.{line_read, frame_laid}
-use Rattle.sheet.specs.Sheets.{refused_at, is_ended, onward, lines_read, onto_laid, lines_laid}
+use Rattle.sheet.specs.Steps.{line_read}
+use Rattle.sheet.specs.Sheets.{refused_at, is_ended, onward, lines_read}
 
 -- the lines of bytes are the first line and the lines of what is left
 stop : (b : ℕ) (bs : List ℕ) → eqb b 10 ≡ true → lines (b ∷ bs) ≡ take (line_length (b ∷ bs)) (b ∷ bs) ∷ lines (drop (line_length (b ∷ bs)) (b ∷ bs))
@@ -36,35 +34,17 @@ first_line (b ∷ x ∷ bs) h = elim (cases_Bool (eqb b 10)) [
 pub first_and_rest : (bs l a : List ℕ) → 0 < length bs → l ≡ take (line_length bs) bs → a ≡ drop (line_length bs) bs → lines bs ≡ l ∷ lines a
 first_and_rest bs l a h e f = first_line bs h ∙ ap₂ (λ (x y : List ℕ). x ∷ lines y) (sym e) (sym f)
 
--- one line more: what is read and laid out of the rest
-module _ {S : Type 0} (c : Coding S) (n : ℕ) (s : Progress) (bs l a : List ℕ) (whole : lines bs ≡ l ∷ lines a) where
-  pub read_on : (t : Progress) → Ok t ≡ line_read c s l → lines_read c n s (lines bs) ≡ lines_read c (n + 1) t (lines a)
-  read_on t e = ap (lines_read c n s) whole ∙ ap (onward n (λ u. lines_read c (n + 1) u (lines a))) (sym e)
+-- there are at most as many lines as bytes
+lines_few_onto : (b : ℕ) (ls : List (List ℕ)) → length (onto b ls) ≤ length ls + 1
+lines_few_onto b [] = omega arith
+lines_few_onto b (l ∷ ls) = omega arith
 
-  pub read_refused : (b : Breach) → Err b ≡ line_read c s l → lines_read c n s (lines bs) ≡ Err (refused_at n b)
-  read_refused b e = ap (lines_read c n s) whole ∙ ap (onward n (λ u. lines_read c (n + 1) u (lines a))) (sym e)
-
-  pub laid_on : (t : Progress) (xs ys : List S) → Ok t ≡ line_read c s l → ys ≡ frame_laid c s (frame_of l) xs → lines_laid c s (lines bs) xs ≡ lines_laid c t (lines a) ys
-  laid_on t xs ys e f =
-      ap (λ (ls : List (List ℕ)). lines_laid c s ls xs) whole
-      ∙ ap (λ (r : Result Progress Breach). onto_laid c (λ u. lines_laid c u (lines a)) r xs (frame_laid c s (frame_of l) xs)) (sym e)
-      ∙ ap (lines_laid c t (lines a)) (sym f)
-
-  pub laid_refused : (b : Breach) (xs : List S) → Err b ≡ line_read c s l → lines_laid c s (lines bs) xs ≡ xs
-  laid_refused b xs e =
-      ap (λ (ls : List (List ℕ)). lines_laid c s ls xs) whole
-      ∙ ap (λ (r : Result Progress Breach). onto_laid c (λ u. lines_laid c u (lines a)) r xs (frame_laid c s (frame_of l) xs)) (sym e)
-
--- no line more
-module _ {S : Type 0} (c : Coding S) (n : ℕ) (s : Progress) (bs : List ℕ) (none : length bs ≡ 0) where
-  pub read_whole : is_ended s.stage ≡ true → lines_read c n s (lines bs) ≡ Ok s
-  read_whole e = ap (λ (xs : List ℕ). lines_read c n s (lines xs)) (nil_from_length bs none) ∙ cond-true _ _ _ e
-
-  pub read_unended : is_ended s.stage ≡ false → lines_read c n s (lines bs) ≡ Err (refused_at n NotDue)
-  read_unended e = ap (λ (xs : List ℕ). lines_read c n s (lines xs)) (nil_from_length bs none) ∙ cond-false _ _ _ e
-
-  pub laid_whole : (xs : List S) → lines_laid c s (lines bs) xs ≡ xs
-  laid_whole xs = ap (λ (ys : List ℕ). lines_laid c s (lines ys) xs) (nil_from_length bs none)
+pub lines_few : (bs : List ℕ) → length (lines bs) ≤ length bs
+lines_few [] = omega arith
+lines_few (b ∷ bs) = elim (cases_Bool (eqb b 10)) [
+  | inl e ↦ rw e (omega (arith, lines_few bs))
+  | inr e ↦ rw e (omega (arith, lines_few bs, lines_few_onto b (lines bs)))
+]
 
 -- what was read to its end has ended
 module _ {S : Type 0} (c : Coding S) where

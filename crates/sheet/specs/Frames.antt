@@ -40,6 +40,17 @@ kind unknown = None
 abbrev pub is_end : List ℕ → Bool
 is_end l = bytes_eq l (48 ∷ 52 ∷ 10 ∷ [])
 
+-- the kinds, by the byte that tells them
+abbrev pub kind_of_byte : ℕ → Option Kind
+kind_of_byte k = cond (k == 1) (Some KindOpening) (cond (k == 2) (Some KindHead) (cond (k == 3) (Some KindTable) (cond (k == 4) (Some KindEnd) None)))
+
+-- digits of a kind with two fields a and b, and the digits after them
+abbrev pub of_kind : Kind → ℕ → ℕ → List ℕ → Said
+of_kind KindOpening a b ds = cond (length ds == 0) (opening a b) (misshapen KindOpening)
+of_kind KindHead a b ds = cond (length ds == 0) (head a b) (misshapen KindHead)
+of_kind KindTable a b ds = table a b ds
+of_kind KindEnd a b ds = misshapen KindEnd
+
 -- digits of kind k with two fields a and b, and the digits after them
 abbrev pub with_fields : ℕ → ℕ → ℕ → List ℕ → Said
 with_fields k a b ds =

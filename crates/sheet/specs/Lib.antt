@@ -3,7 +3,10 @@ pub mod Lines
 pub mod Breaches
 pub mod Frames
 pub mod Tables
+pub mod Known
+pub mod Views
 pub mod Steps
+pub mod Fillings
 pub mod Sheets
 pub mod Judgements
 pub mod Openings

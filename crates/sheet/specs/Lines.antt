@@ -14,6 +14,9 @@ abbrev pub lines : List ℕ → List (List ℕ)
 lines [] = []
 lines (b ∷ bs) = cond (b == 10) ((b ∷ []) ∷ lines bs) (onto b (lines bs))
 
+abbrev pub is_line_end : ℕ → Bool
+is_line_end b = b == 10
+
 -- how long the first piece is
 abbrev pub in_line : ℕ → Bool
 in_line b = not (b == 10)

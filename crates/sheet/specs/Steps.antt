@@ -1,6 +1,6 @@
 -- How a sheet is read, line after line: what has been read so far, which kind of frame is due, and what each frame must hold.
 -- Assumes nothing.
-use Rattle.std.specs.Prelude.{◌≡◌, ℕ, ◌+◌, ◌-◌, ◌*◌, ◌<◌, ◌≤◌, Bool, true, false, cond, ◌&&◌, List, length, replicate, Some, None, Ok, Err, Option, Result, ◌==◌, nat_le, nat_lt, slice_index, slice_index_or, slice_set}
+use Rattle.std.specs.Prelude.{ℕ, ◌+◌, ◌-◌, ◌*◌, Bool, true, false, cond, ◌&&◌, List, length, replicate, Some, None, Ok, Err, Option, Result, ◌==◌, nat_le, nat_lt, slice_index, slice_index_or, slice_set}
 use Rattle.scale.specs.Coding.{Coding}
 use Rattle.problem.specs.Costs.{pair, is_pair}
 use Rattle.sheet.specs.declared.breach.Breach.{Breach}
@@ -10,7 +10,7 @@ use Rattle.sheet.specs.declared.frame.Kind.TheVariants.{Opening, Head, Table, En
 use Rattle.sheet.specs.declared.progress.Stage.{Stage}
 use Rattle.sheet.specs.declared.progress.Stage.TheVariants.{Start, Heads, Tables, Ended}
 use Rattle.sheet.specs.declared.progress.Progress.{Progress}
-use Rattle.sheet.specs.declared.step.Shape.{Shape}
+use Rattle.sheet.specs.declared.table.Shape.{Shape}
 use Rattle.sheet.specs.Lines.{is_line}
 use Rattle.sheet.specs.Frames.{Said, opening, head, table, end, misshapen, unknown, kind, frame_of}
 use Rattle.sheet.specs.Tables.{entry, first_unlawful, table_laid}
@@ -114,16 +114,3 @@ module _ {S : Type 0} (c : Coding S) where
   frame_laid s end xs = xs
   frame_laid s (misshapen k) xs = xs
   frame_laid s unknown xs = xs
-
--- What the code keeps true of what it has read: the numbers are in range.
-abbrev pub Staged : Stage → ℕ → ℕ → Type 0
-Staged Start heads known = known ≡ 0
-Staged Heads heads known = known < heads
-Staged Tables heads known = (known ≡ heads) × (1 ≤ heads)
-Staged Ended heads known = (known ≡ heads) × (1 ≤ heads)
-
-pub record Sound (s : Progress) : Type 0 where
-  pub few : s.heads ≤ 8
-  pub staged : Staged s.stage s.heads s.known
-  pub each : (k : ℕ) → k < s.known → (1 ≤ slice_index s.setups k) × (slice_index s.setups k ≤ 8)
-  pub rest : (k : ℕ) → s.known ≤ k → slice_index s.setups k ≡ 0

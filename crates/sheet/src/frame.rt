@@ -2,18 +2,32 @@
 ghost use Rattle.std.specs.Prelude.{◌≡◌, if◌then◌else◌, Some, None};
 ghost use Rattle.std.specs.Option.{option_map};
 ghost use Rattle.sheet.specs.Lines.{is_line};
-ghost use Rattle.sheet.specs.Frames.{said, kind as kind_of, is_end, with_fields, without_fields, framed as framed_digits, frame_of};
+ghost use Rattle.sheet.specs.Frames.{said, kind as kind_of, is_end, kind_of_byte, of_kind, framed as framed_digits, frame_of};
 
 use crate::hex::byte;
 use crate::line::are_digits;
 
-// The first byte of a frame: 01, 02, 03 and 04.
-#[derive(Clone, Copy)]
+// The first byte of a frame.
+#[derive(Clone, Copy, Debug, PartialEq, Eq)]
 pub enum Kind {
-    Opening,
-    Head,
-    Table,
-    End,
+    Opening = 1,
+    Head = 2,
+    Table = 3,
+    End = 4,
+}
+
+impl Kind {
+    fn of_byte(byte: u8) -> Option<Kind>
+        ensures { result ≡ kind_of_byte byte }
+    {
+        match byte {
+            1 => Some(Kind::Opening),
+            2 => Some(Kind::Head),
+            3 => Some(Kind::Table),
+            4 => Some(Kind::End),
+            _ => None,
+        }
+    }
 }
 
 #[derive(Clone, Copy)]
@@ -44,34 +58,18 @@ fn is_end_line(line: &[u8]) -> bool
 }
 
 // The frame of a kind with two fields, and the digits after them.
-fn from_fields<'a>(kind: u8, a: u8, b: u8, digits: &'a [u8]) -> Frame<'a>
-    ensures { said result ≡ with_fields kind a b digits.now }
+fn from_fields<'a>(kind: Kind, a: u8, b: u8, digits: &'a [u8]) -> Frame<'a>
+    ensures { said result ≡ of_kind kind a b digits.now }
 {
     match kind {
-        1 if digits.is_empty() => Frame::Opening { heads: a, scale: b },
-        1 => Frame::Misshapen(Kind::Opening),
-        2 if digits.is_empty() => Frame::Head { head: a, setups: b },
-        2 => Frame::Misshapen(Kind::Head),
-        3 => Frame::Table {
+        Kind::Opening if digits.is_empty() => Frame::Opening { heads: a, scale: b },
+        Kind::Head if digits.is_empty() => Frame::Head { head: a, setups: b },
+        Kind::Table => Frame::Table {
             first: a,
             second: b,
             digits,
         },
-        4 => Frame::Misshapen(Kind::End),
-        _ => Frame::Unknown,
-    }
-}
-
-// The frame of a kind whose line is too short for two fields, and is not the end line.
-fn from_kind<'a>(kind: u8) -> Frame<'a>
-    ensures { said result ≡ without_fields kind }
-{
-    match kind {
-        1 => Frame::Misshapen(Kind::Opening),
-        2 => Frame::Misshapen(Kind::Head),
-        3 => Frame::Misshapen(Kind::Table),
-        4 => Frame::Misshapen(Kind::End),
-        _ => Frame::Unknown,
+        _ => Frame::Misshapen(kind),
     }
 }
 
@@ -80,13 +78,14 @@ fn framed<'a>(digits: &'a [u8]) -> Frame<'a>
     ensures { said result ≡ framed_digits digits.now }
 {
     match digits {
-        [k0, k1, a0, a1, b0, b1, rest @ ..] => from_fields(
-            byte(*k0, *k1),
-            byte(*a0, *a1),
-            byte(*b0, *b1),
-            rest,
-        ),
-        [k0, k1, ..] => from_kind(byte(*k0, *k1)),
+        [k0, k1, a0, a1, b0, b1, rest @ ..] => match Kind::of_byte(byte(*k0, *k1)) {
+            Some(kind) => from_fields(kind, byte(*a0, *a1), byte(*b0, *b1), rest),
+            None => Frame::Unknown,
+        },
+        [k0, k1, ..] => match Kind::of_byte(byte(*k0, *k1)) {
+            Some(kind) => Frame::Misshapen(kind),
+            None => Frame::Unknown,
+        },
         _ => Frame::Unknown,
     }
 }
@@ -109,13 +108,9 @@ impl<'a> Frame<'a> {
         ensures { result ≡ kind_of (said self.entry) }
     {
         match self {
-            Frame::Opening { heads: _, scale: _ } => Some(Kind::Opening),
-            Frame::Head { head: _, setups: _ } => Some(Kind::Head),
-            Frame::Table {
-                first: _,
-                second: _,
-                digits: _,
-            } => Some(Kind::Table),
+            Frame::Opening { .. } => Some(Kind::Opening),
+            Frame::Head { .. } => Some(Kind::Head),
+            Frame::Table { .. } => Some(Kind::Table),
             Frame::End => Some(Kind::End),
             Frame::Misshapen(kind) => Some(kind),
             Frame::Unknown => None,

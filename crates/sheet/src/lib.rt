@@ -2,11 +2,10 @@
 #![tactic(auto)]
 
 pub mod breach;
-pub mod entry;
 pub mod frame;
 pub mod hex;
 pub mod line;
 pub mod opening;
 pub mod progress;
 pub mod read;
-pub mod step;
+pub mod table;

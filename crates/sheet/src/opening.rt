@@ -6,20 +6,17 @@ ghost use Rattle.sheet.specs.Openings.{number as scale_number, scale_said, scale
 use crate::frame::Frame;
 use crate::line::first_length;
 
-#[derive(Clone, Copy)]
+#[derive(Clone, Copy, Debug, PartialEq, Eq)]
 pub enum ScaleName {
-    Minutes,
-    Clashes,
+    Minutes = 1,
+    Clashes = 2,
 }
 
 impl ScaleName {
     pub fn number(self) -> u8
         ensures { result ≡ scale_number self }
     {
-        match self {
-            ScaleName::Minutes => 1,
-            ScaleName::Clashes => 2,
-        }
+        self as u8
     }
 }
 
@@ -27,22 +24,11 @@ fn scale_of_frame(frame: Frame) -> ScaleName
     ensures { result ≡ scale_said (said frame.entry) }
 {
     match frame {
-        Frame::Opening { heads, scale } => {
-            if heads >= 1 && heads <= 8 && scale == 2 {
-                ScaleName::Clashes
-            } else {
-                ScaleName::Minutes
-            }
-        }
-        Frame::Head { head: _, setups: _ } => ScaleName::Minutes,
-        Frame::Table {
-            first: _,
-            second: _,
-            digits: _,
-        } => ScaleName::Minutes,
-        Frame::End => ScaleName::Minutes,
-        Frame::Misshapen(_) => ScaleName::Minutes,
-        Frame::Unknown => ScaleName::Minutes,
+        Frame::Opening {
+            heads: 1..=8,
+            scale,
+        } if scale == ScaleName::Clashes.number() => ScaleName::Clashes,
+        _ => ScaleName::Minutes,
     }
 }
 
@@ -50,16 +36,13 @@ fn scale_of_frame(frame: Frame) -> ScaleName
 fn scale_in_line(line: &[u8]) -> ScaleName
     ensures { result ≡ scale_in line.now }
 {
-    match Frame::of_line(line) {
-        Some(frame) => scale_of_frame(frame),
-        None => ScaleName::Minutes,
-    }
+    Frame::of_line(line).map_or(ScaleName::Minutes, scale_of_frame)
 }
 
 fn first_line(sheet: &[u8]) -> &[u8]
     ensures { result.now ≡ line_first sheet.now }
 {
-    &sheet[0..first_length(sheet)]
+    &sheet[..first_length(sheet)]
 }
 
 // The scale that a lawful first line names; minutes for any other sheet.

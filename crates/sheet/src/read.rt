@@ -1,20 +1,20 @@
 // Reading a sheet.
-ghost use Rattle.std.specs.Prelude.{◌≡◌, ◌≤◌, true, ◌⊎◌, length, replicate, IfOk};
+ghost use Rattle.std.specs.Prelude.{◌≡◌, ◌≤◌, Ok, length, replicate};
 ghost use Rattle.sheet.specs.Judgements.{Judged, LaysOut};
+ghost use Rattle.sheet.specs.Lines.{lines};
 ghost use Rattle.sheet.specs.Openings.{has_table_for};
-ghost use Rattle.sheet.specs.Steps.{Sound};
-ghost use Rattle.sheet.specs.Sheets.{sheet_read, sheet_laid, is_ended, Tells, Reads};
+ghost use Rattle.sheet.specs.Fillings.{lines_filled};
+ghost use Rattle.sheet.specs.Sheets.{sheet_read, Reads};
 
 use crate::breach::{Breach, SheetRefusal};
-use crate::line::first_length;
-use crate::progress::{Progress, Stage};
-use crate::step::after_line;
+use crate::line::Lines;
+use crate::progress::Progress;
 use job::job::Job;
 use problem::place::{PLACES, pair};
 use scale::scale::Scale;
 
 // the most bytes of a sheet
-const MOST_BYTES: usize = 24_000;
+pub const MOST_BYTES: usize = 24_000;
 
 // What a sheet says, but for its costs: the job, and which pairs have a table, by the pair's number.
 #[derive(Clone, Copy)]
@@ -35,53 +35,36 @@ impl Contents {
     }
 }
 
-fn has_ended(stage: Stage) -> bool
-    ensures { result ≡ is_ended stage }
+// What is known at the end of a sheet whose lines keep all rules, or the first line that does not.
+fn judged<S: Scale>(sheet: &[u8]) -> Result<Progress, SheetRefusal>
+    requires { length sheet.now ≤ 24000 }
+    ensures { result ≡ sheet_read S.Scale.coding sheet.now }
 {
-    match stage {
-        Stage::Start => false,
-        Stage::Heads => false,
-        Stage::Tables => false,
-        Stage::Ended => true,
+    let mut progress = Progress::start();
+    // counted here, since the number of the line that is due is asked after the last line too, where that of `enumerate` is gone
+    let mut number = 1;
+    for line in Lines::of(sheet) {
+        progress = progress
+            .after_line::<S>(line)
+            .map_err(|breach| breach.at_line(number))?;
+        number += 1;
+    }
+    if progress.has_ended() {
+        Ok(progress)
+    } else {
+        Err(Breach::NotDue.at_line(number))
     }
 }
 
-// Goes through the lines of a sheet, and lays their entries out in `costs`, which has all places or none.
-fn scan<S: Scale>(sheet: &[u8], costs: &mut [S]) -> Result<Progress, SheetRefusal>
-    requires few { length sheet.now ≤ 24000 }
-    requires room { (length costs.old ≡ 0) ⊎ (1792 ≤ length costs.old) }
-    ensures value { result ≡ sheet_read S.Scale.coding sheet.now }
-    ensures sound { IfOk result Sound }
-    ensures memory { costs.new ≡ sheet_laid S.Scale.coding sheet.now costs.old }
+// Lays the tables of a sheet out in `costs`, with what is known at its end.
+fn lay_out<S: Scale>(sheet: &[u8], progress: &Progress, costs: &mut [S])
+    requires { 1792 ≤ length costs.old }
+    ensures { costs.new ≡ lines_filled S.Scale.coding progress.now (lines sheet.now) costs.old }
 {
-    let mut progress = Progress {
-        stage: Stage::Start,
-        heads: 0,
-        known: 0,
-        setups: [0; 8],
-        tables: [false; 28],
-    };
-    let mut rest = sheet;
-    let mut number: u16 = 1;
-    while !rest.is_empty() {
-        let (line, after) = rest.split_at(first_length(rest));
-        progress = match after_line(progress, line, costs) {
-            Ok(next) => next,
-            Err(breach) => return Err(SheetRefusal {
-                line: number,
-                breach,
-            }),
-        };
-        rest = after;
-        number += 1;
-    }
-    if has_ended(progress.stage) {
-        Ok(progress)
-    } else {
-        Err(SheetRefusal {
-            line: number,
-            breach: Breach::NotDue,
-        })
+    for line in Lines::of(sheet) {
+        if let Some(table) = progress.table_in(line) {
+            table.lay(costs);
+        }
     }
 }
 
@@ -93,46 +76,22 @@ fn clear<S: Scale>(costs: &mut [S])
     }
 }
 
-// What to tell of a sheet that was read to its end.
-fn told(progress: Progress) -> Contents
-    requires sound { Sound progress }
-    requires whole { is_ended progress.stage ≡ true }
-    ensures { Tells progress result }
-{
-    match Job::new(&progress.setups[0..progress.heads as usize]) {
-        Ok(job) => Contents {
-            job,
-            tables: progress.tables,
-        },
-        Err(_) => unreachable(),
-    }
-}
-
 // Reads a sheet and lays its costs out, each in its place and nothing where no table has an entry.
 fn read_exactly<S: Scale>(sheet: &[u8], costs: &mut [S]) -> Result<Contents, SheetRefusal>
     ensures { Reads S.Scale.scale S.Scale.coding sheet.now costs.old result costs.new }
 {
     if costs.len() < PLACES {
-        return Err(SheetRefusal {
-            line: 0,
-            breach: Breach::TooLittle,
-        });
+        return Err(Breach::TooLittle.at_line(0));
     }
     if sheet.len() > MOST_BYTES {
-        return Err(SheetRefusal {
-            line: 0,
-            breach: Breach::TooLong,
-        });
+        return Err(Breach::TooLong.at_line(0));
     }
-    // a first pass into no memory finds every refusal, so that a refused sheet leaves all costs as they were
-    let progress = match scan(sheet, &mut costs[0..0]) {
-        Ok(progress) => progress,
-        Err(refusal) => return Err(refusal),
-    };
-    let places = &mut costs[0..PLACES];
+    // a first pass finds every refusal, so that a refused sheet leaves all costs as they were
+    let progress = judged::<S>(sheet)?;
+    let places = &mut costs[..PLACES];
     clear(places);
-    let _ = scan(sheet, places);
-    Ok(told(progress))
+    lay_out(sheet, &progress, places);
+    Ok(progress.told())
 }
 
 // Reads a sheet into `costs`: each entry goes to its place, and nothing to every other of the 1,792 places; what lies past them

@@ -11,19 +11,14 @@ use std::alloc::Global;
 // Reads with the scale that the sheet names.
 pub(crate) fn answered(heap: Global, sheet: &[u8]) -> anyhow::Result<String> {
     match scale_named(sheet) {
-        ScaleName::Minutes => {
-            let mut costs = vec![in heap; Minutes::nothing(); PLACES]?;
-            text(heap, read(sheet, costs.as_mut_slice()))
-        }
-        ScaleName::Clashes => {
-            let mut costs = vec![in heap; Clashes::nothing(); PLACES]?;
-            text(heap, read(sheet, costs.as_mut_slice()))
-        }
+        ScaleName::Minutes => answered_in::<Minutes>(heap, sheet),
+        ScaleName::Clashes => answered_in::<Clashes>(heap, sheet),
     }
 }
 
-fn text(heap: Global, answer: Result<Contents, SheetRefusal>) -> anyhow::Result<String> {
-    match answer {
+fn answered_in<S: Scale + Clone>(heap: Global, sheet: &[u8]) -> anyhow::Result<String> {
+    let mut costs: Vec<S> = vec![in heap; S::nothing(); PLACES]?;
+    match read(sheet, costs.as_mut_slice()) {
         Ok(contents) => granted(heap, contents),
         Err(refusal) => refused(heap, refusal),
     }
@@ -41,18 +36,16 @@ fn refused(heap: Global, refusal: SheetRefusal) -> anyhow::Result<String> {
 
 fn granted(heap: Global, contents: Contents) -> anyhow::Result<String> {
     let mut text = String::from_str(heap, "ok")?;
-    let heads = contents.job.heads();
     let mut mark = ':';
-    for head in 1..9 {
-        if head <= heads {
-            let setups = contents.job.setups(head);
-            write!(text, "{mark}{setups}")?;
-            mark = ',';
-        }
+    for head in 1..=contents.job.heads() {
+        let setups = contents.job.setups(head);
+        write!(text, "{mark}{setups}")?;
+        mark = ',';
     }
     mark = ':';
-    for a in 1..9 {
-        for b in 1..9 {
+    // all numbers of heads are asked, also where they are no pair
+    for a in 1..=8 {
+        for b in 1..=8 {
             if contents.has_table(a, b) {
                 write!(text, "{mark}{a}-{b}")?;
                 mark = ',';

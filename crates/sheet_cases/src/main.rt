@@ -8,18 +8,20 @@
 mod cases;
 mod expand;
 
-use anyhow::anyhow;
+use anyhow::Context;
 use cases::answered;
 use expand::expanded;
 use std::io;
 use std::io::{BufRead, BufReader};
+
+const NO_CASE: &str = "a case is a name, what is expected, and a sheet";
 
 fn complain(rt: &HostRuntime, name: &str, answer: &str, expected: &str) -> io::Result<()> {
     println!(rt; "{name}: {answer}, but expected is {expected}")
 }
 
 fn compared(rt: &HostRuntime, name: &str, expected: &str, text: &str) -> anyhow::Result<bool> {
-    let sheet = expanded(rt.alloc(), text.as_bytes())?;
+    let sheet = expanded(rt.alloc(), text)?;
     let answer = answered(rt.alloc(), sheet.as_slice())?;
     if answer.as_str() == expected {
         println!(rt; "{name}: {answer}")?;
@@ -29,18 +31,10 @@ fn compared(rt: &HostRuntime, name: &str, expected: &str, text: &str) -> anyhow:
     Ok(false)
 }
 
-fn judged(rt: &HostRuntime, name: &str, rest: &str) -> anyhow::Result<bool> {
-    match rest.split_once(' ') {
-        Some((expected, text)) => compared(rt, name, expected, text),
-        None => Err(anyhow!("a case is a name, what is expected, and a sheet")),
-    }
-}
-
-fn judge(rt: &HostRuntime, case: &str) -> anyhow::Result<bool> {
-    match case.split_once(' ') {
-        Some((name, rest)) => judged(rt, name, rest),
-        None => Err(anyhow!("a case is a name, what is expected, and a sheet")),
-    }
+fn judged(rt: &HostRuntime, case: &str) -> anyhow::Result<bool> {
+    let (name, rest) = case.split_once(' ').context(NO_CASE)?;
+    let (expected, text) = rest.split_once(' ').context(NO_CASE)?;
+    compared(rt, name, expected, text)
 }
 
 fn run(rt: &HostRuntime) -> anyhow::Result<()> {
@@ -51,7 +45,7 @@ fn run(rt: &HostRuntime) -> anyhow::Result<()> {
         if case.is_empty() || case.starts_with('#') {
             continue;
         }
-        if judge(rt, case.as_str())? {
+        if judged(rt, case.as_str())? {
             right = right.saturating_add(1);
         } else {
             wrong = wrong.saturating_add(1);

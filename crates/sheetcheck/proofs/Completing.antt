@@ -7,7 +7,7 @@ use Rattle.std.proofs.lemmas.Result.{MatchResult-at_ok}
 use Rattle.std.proofs.lemmas.Bool.{cases_eq, cases_lt}
 use Rattle.job.specs.declared.job.Job.{Job}
 use Rattle.job.specs.declared.plan.Plan.{Plan}
-use Rattle.job.specs.Plans.{setup, setups, empty, name, Complete}
+use Rattle.job.specs.Plans.{setup, setups, empty, name}
 use Rattle.problem.proofs.Naming.{setup_name_same, setup_name_other}
 use Rattle.job.proofs.Readings.{setup_within, setup_none, setup_at}
 use Rattle.sheetcheck.specs.Spelling.{Spelled}
@@ -55,12 +55,6 @@ module _ {W : Type 0} (bytes : W → List ℕ) (j : Job) (words : List W) where
   }
 
   module _ (p : Plan) (all : NamedBelow p (j.heads + 1)) where
-    pub named_below_complete : Complete j p
-    named_below_complete = record {
-      each = λ k a b. all.each k a (omega arith);
-      no_other = λ k a b. all.no_other k (omega arith);
-    }
-
     pub named_below_spelled : length p.setups ≡ 8 → (q : Plan) → Spelled bytes j words q → p ≡ q
     named_below_spelled long q s = same_setups p q long s.whole (λ k a b. elim (cases_lt k (j.heads + 1)) [
       | inl lt ↦ all.as_spelled q s k a lt

@@ -4,7 +4,7 @@ ghost use Rattle.job.specs.declared.plan.Plan.{Plan as PlanOfHeads};
 ghost use Rattle.job.specs.Plans.{Complete, setups as setups_of};
 ghost use Rattle.sheetcheck.specs.Spelling.{Spelled};
 
-use crate::counted::setups;
+use crate::counted::Counted;
 use job::job::Job;
 use job::plan::Plan;
 use std::fmt;
@@ -33,8 +33,8 @@ pub(crate) fn plan_of<'a>(job: &Job, words: &'a [String]) -> Result<Plan, Compla
         });
     }
     let mut plan = Plan::empty();
-    for head in 1..=heads {
-        let setup = setup_of(job, head, words[head as usize - 1].as_str())?;
+    for (head, word) in (1..heads + 1).zip(words) {
+        let setup = setup_of(job, head, word.as_str())?;
         plan = plan.name(head, setup);
     }
     Ok(plan)
@@ -59,6 +59,7 @@ fn setup_of<'a>(job: &Job, head: u8, word: &'a str) -> Result<u8, Complaint<'a>>
     Ok(given as u8)
 }
 
+// By hand and not by thiserror, since a sentence hangs on its numbers.
 impl fmt::Display for Complaint<'_> {
     fn fmt<W: fmt::Write>(&self, f: &mut fmt::Formatter<W>) -> fmt::Result {
         match *self {
@@ -74,7 +75,7 @@ impl fmt::Display for Complaint<'_> {
 }
 
 fn count<W: fmt::Write>(f: &mut fmt::Formatter<W>, heads: u8, given: usize) -> fmt::Result {
-    let wanted = setups(heads);
+    let wanted = Counted(heads, "setup");
     let each = if heads == 1 {
         "is wanted, for the only head"
     } else {

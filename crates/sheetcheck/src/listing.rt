@@ -1,5 +1,5 @@
 // What a good sheet says, for a person.
-use crate::counted::{heads, setups};
+use crate::counted::Counted;
 use sheet::opening::ScaleName;
 use sheet::read::Contents;
 use std::fmt;
@@ -17,10 +17,10 @@ impl fmt::Display for Listing<'_> {
             ScaleName::Minutes => "minutes",
             ScaleName::Clashes => "clashes and minutes",
         };
-        let heads = heads(job.heads());
+        let heads = Counted(job.heads(), "head");
         writeln!(f, "A sheet in {costs} with {heads}.")?;
         for head in 1..=job.heads() {
-            let setups = setups(job.setups(head));
+            let setups = Counted(job.setups(head), "setup");
             writeln!(f, "  head {head}: {setups}")?;
         }
         let costly = Pairs {

@@ -18,56 +18,50 @@ use scale::clashes::Clashes;
 use scale::minutes::Minutes;
 use scale::scale::Scale;
 use sheet::opening::{ScaleName, scale_named};
-use sheet::read::read;
+use sheet::read::{MOST_BYTES, read};
 use std::io::Read;
 use std::process::ExitCode;
 use std::{env, fmt, io};
 
 // One byte more than a sheet may have, so that a longer one is seen to be too long.
-const BYTES_READ: u64 = 24_001;
+const BYTES_READ: u64 = MOST_BYTES as u64 + 1;
 
 fn main(rt: HostRuntime) -> io::Result<ExitCode> {
     match run(&rt) {
-        Ok(()) => Ok(ExitCode::SUCCESS),
+        Ok(code) => Ok(code),
         Err(failure) => {
-            failure.tell(&rt)?;
+            eprintln!(rt; "{failure}")?;
             Ok(ExitCode::FAILURE)
         }
     }
 }
 
-fn run(rt: &HostRuntime) -> Result<(), Failure> {
+fn run(rt: &HostRuntime) -> Result<ExitCode, Failure> {
     let heap = rt.alloc();
     let mut bytes = Vec::new(heap);
     rt.stdin().take(BYTES_READ).read_to_end(&mut bytes)?;
     let arguments: Vec<String> = env::args(rt)?.skip(1).collect(heap)?;
     let (sheet, words) = (bytes.as_slice(), arguments.as_slice());
-    let scale = scale_named(sheet);
-    match scale {
-        ScaleName::Minutes => {
-            let mut costs: Vec<Minutes> = vec![in heap; Minutes::nothing(); PLACES]?;
-            answer(rt, scale, sheet, costs.as_mut_slice(), words)
-        }
-        ScaleName::Clashes => {
-            let mut costs: Vec<Clashes> = vec![in heap; Clashes::nothing(); PLACES]?;
-            answer(rt, scale, sheet, costs.as_mut_slice(), words)
-        }
+    match scale_named(sheet) {
+        ScaleName::Minutes => answer::<Minutes>(rt, ScaleName::Minutes, sheet, words),
+        ScaleName::Clashes => answer::<Clashes>(rt, ScaleName::Clashes, sheet, words),
     }
 }
 
-// Lists the sheet and, where there are words, what the plan that they name costs.
-fn answer<S: Scale + fmt::Display>(
+// Lists the sheet and, where there are words, what the plan that they name costs; or says what is wrong with the sheet or the words.
+fn answer<S: Scale + Clone + fmt::Display>(
     rt: &HostRuntime,
     scale: ScaleName,
     sheet: &[u8],
-    costs: &mut [S],
     words: &[String],
-) -> Result<(), Failure> {
-    let contents = match read(sheet, costs) {
+) -> Result<ExitCode, Failure> {
+    let heap = rt.alloc();
+    let mut costs: Vec<S> = vec![in heap; S::nothing(); PLACES]?;
+    let contents = match read(sheet, costs.as_mut_slice()) {
         Ok(contents) => contents,
         Err(refusal) => {
             rt.print(Refused(refusal))?;
-            return Err(Failure::Sheet);
+            return Ok(ExitCode::FAILURE);
         }
     };
     rt.print(Listing {
@@ -75,13 +69,16 @@ fn answer<S: Scale + fmt::Display>(
         contents: &contents,
     })?;
     if words.is_empty() {
-        return Ok(());
+        return Ok(ExitCode::SUCCESS);
     }
     match plan_of(&contents.job, words) {
-        Ok(plan) => Ok(rt.print(Prices::new(rt.alloc(), &contents.job, costs, plan)?)?),
+        Ok(plan) => {
+            rt.print(Prices::new(heap, &contents.job, costs.as_slice(), plan)?)?;
+            Ok(ExitCode::SUCCESS)
+        }
         Err(complaint) => {
             eprintln!(rt; "{complaint}")?;
-            Err(Failure::Arguments)
+            Ok(ExitCode::FAILURE)
         }
     }
 }

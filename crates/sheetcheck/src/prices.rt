@@ -6,7 +6,7 @@ ghost use Rattle.sheetcheck.specs.Pricing.{PricedAsNamed};
 use crate::failure::Failure;
 use job::job::Job;
 use job::plan::Plan;
-use problem::price::{pair_cost, plan_cost};
+use problem::price::Problem;
 use scale::scale::Scale;
 use std::alloc::Global;
 use std::fmt;
@@ -36,15 +36,16 @@ impl<S: Scale> Prices<S> {
         ensures whole { IfOk result (λ x. x.whole ≡ plan_cost S.Scale.scale costs.now job.now plan) }
         ensures each { IfOk result (λ x. PricedAsNamed S.Scale.scale costs.now plan x.pairs.items) }
     {
+        let problem = Problem { job, costs };
         let heads = job.heads();
         let mut pairs = Vec::new(heap);
         for a in 1..heads {
             for b in a + 1..=heads {
-                let cost = pair_cost(job, costs, a, b, &plan)?;
+                let cost = problem.pair_cost(a, b, &plan)?;
                 pairs.push(PairPrice { a, b, cost })?;
             }
         }
-        let whole = plan_cost(job, costs, &plan)?;
+        let whole = problem.plan_cost(&plan)?;
         Ok(Prices {
             job: *job,
             plan,

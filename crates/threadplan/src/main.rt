@@ -8,11 +8,12 @@ use planning::plan;
 use scale::clashes::Clashes;
 use scale::minutes::Minutes;
 use sheet::opening::{ScaleName, scale_named};
+use sheet::read::MOST_BYTES;
 use std::io;
 use std::io::Read;
 
 // One byte more than a sheet may have, so that a longer one is seen to be too long.
-const BYTES_READ: u64 = 24_001;
+const BYTES_READ: u64 = MOST_BYTES as u64 + 1;
 
 fn main(rt: HostRuntime) -> io::Result<()> {
     let heap = rt.alloc();
@@ -24,5 +25,5 @@ fn main(rt: HostRuntime) -> io::Result<()> {
         ScaleName::Minutes => plan::<Minutes>(heap, sheet, &mut out)?,
         ScaleName::Clashes => plan::<Clashes>(heap, sheet, &mut out)?,
     };
-    rt.write_all(&out[0..length.min(64)])
+    rt.write_all(&out[..length.min(64)])
 }

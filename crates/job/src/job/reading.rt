@@ -4,19 +4,14 @@ ghost use Rattle.job.specs.Lists.{every};
 ghost use Rattle.job.specs.Plans.{MakesJob, setups as setups_of, plans as plans_of, is_complete, is_of_job};
 
 use super::Job;
-use crate::plan::Plan;
+use crate::plan::{NONE, Plan};
 use crate::refusal::Refusal;
 
 // Whether each is 1 to 8.
 fn are_in_range(counts: &[u8]) -> bool
     ensures { result ≡ every (λ d. nat_le 1 d && nat_le d 8) counts.now }
 {
-    for count in counts {
-        if *count < 1 || *count > 8 {
-            return false;
-        }
-    }
-    true
+    counts.iter().all(|count| (1..=8).contains(count))
 }
 
 // The counts, and 0 for each head past them.
@@ -25,7 +20,7 @@ fn padded(counts: &[u8]) -> [u8; 8]
     ensures { result ≡ counts.now ++ replicate (8 - length counts.now) 0 }
 {
     let mut setups = [0; 8];
-    setups[0..counts.len()].copy_from_slice(counts);
+    setups[..counts.len()].copy_from_slice(counts);
     setups
 }
 
@@ -35,7 +30,7 @@ impl Job {
     pub fn new(counts: &[u8]) -> Result<Job, Refusal>
         ensures { MakesJob counts.now result }
     {
-        if counts.len() < 1 || counts.len() > 8 || !are_in_range(counts) {
+        if counts.is_empty() || counts.len() > 8 || !are_in_range(counts) {
             return Err(Refusal::BadNumber);
         }
         Ok(Job {
@@ -64,9 +59,9 @@ impl Job {
     pub fn plans(&self) -> u32
         ensures { result ≡ plans_of self.now }
     {
-        let mut product: u32 = 1;
-        for k in 0..self.heads as usize {
-            product *= self.setups[k] as u32;
+        let mut product = 1;
+        for setups in &self.setups[..self.heads as usize] {
+            product *= u32::from(*setups);
         }
         product
     }
@@ -75,23 +70,16 @@ impl Job {
     pub fn is_complete(&self, plan: &Plan) -> bool
         ensures { result ≡ is_complete self.now plan.now }
     {
-        for k in 0..self.heads as usize {
-            if plan.setups[k] == 255 {
-                return false;
-            }
-        }
-        true
+        plan.setups[..self.heads as usize]
+            .iter()
+            .all(|setup| *setup < NONE)
     }
 
     // Whether the plan names no head and no setup that the job lacks.
     pub fn admits(&self, plan: &Plan) -> bool
         ensures { result ≡ is_of_job self.now plan.now }
     {
-        for k in 0..8 {
-            if plan.setups[k] < 255 && plan.setups[k] >= self.setups[k] {
-                return false;
-            }
-        }
-        true
+        let mut pairs = plan.setups.iter().zip(&self.setups);
+        pairs.all(|(setup, count)| *setup == NONE || setup < count)
     }
 }

@@ -1,7 +1,7 @@
 // Reading a run that has ended.
 ghost use Rattle.std.specs.Prelude.{◌≡◌};
 
-use super::{Ended, Outcome};
+use super::{Ended, Found};
 use scale::scale::Scale;
 
 impl<S: Scale> Ended<S> {
@@ -20,7 +20,7 @@ impl<S: Scale> Ended<S> {
     }
 
     // A cheapest plan with its cost, or no plan.
-    pub fn outcome(&self) -> Outcome<S>
+    pub fn outcome(&self) -> Option<Found<S>>
         ensures { result ≡ self.now.outcome }
     {
         self.outcome

@@ -1,42 +1,35 @@
 // A whole run in one call.
-ghost use Rattle.head.specs.Lent.{lent};
+ghost use Rattle.head.specs.Lent.{lent_by, SamePlaces};
 ghost use Rattle.run.specs.Promises.{Solves};
 
-use super::deliver::deliver;
-use super::end::{end, give_up};
-use super::start::start;
-use super::{Ended, Refused};
-use head::best::Best;
-use head::record::Record;
-use job::job::Job;
+use super::{Ended, Run};
+use head::memory::Memory;
+use job::declined::Declined;
 use job::refusal::Refusal;
 use link::link::Link;
 use link::message::Message;
 use link::picker::Picker;
+use problem::price::Problem;
 use scale::scale::Scale;
 
 // Starts a run, delivers until no message waits, and ends it. Refused only as the start is.
 pub fn solve<S: Scale, L: Link<Message<S>>, P: Picker>(
-    job: &Job,
+    problem: &Problem<S>,
     link: &mut L,
     picker: &mut P,
-    costs: &[S],
-    records: &mut [Record<S>],
-    bests: &mut [Best<S>],
+    memory: &mut Memory<S>,
 ) -> Result<Ended<S>, Refusal>
-    ensures { Solves S.Scale.scale (lent job.now costs.now records.old bests.old (L.Link.limit link.old) (L.Link.bag link.old)) result (lent job.now costs.now records.new bests.new (L.Link.limit link.new) (L.Link.bag link.new)) }
+    ensures solves { Solves S.Scale.scale (lent_by problem.now memory.old (L.Link.limit link.old) (L.Link.bag link.old)) result (lent_by problem.now memory.new (L.Link.limit link.new) (L.Link.bag link.new)) }
+    ensures places { SamePlaces memory.old memory.new }
 {
-    let mut run = match start(job, link, costs, records, bests) {
-        Ok(run) => run,
-        Err(refusal) => return Err(refusal),
-    };
+    let mut run = Run::start(problem, link, memory)?;
     while link.waiting() > 0 {
-        let _ = deliver(&mut run, job, link, picker, costs, records, bests);
+        let _ = run.deliver(problem, link, picker, memory);
     }
-    match end(run, job, link, costs, records, bests) {
+    match run.end(problem, link, memory) {
         Ok(ended) => Ok(ended),
-        Err(Refused { run, refusal }) => {
-            give_up(run);
+        Err(Declined { back, refusal }) => {
+            back.give_up();
             Err(refusal)
         }
     }

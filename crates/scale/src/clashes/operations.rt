@@ -1,9 +1,10 @@
 // Clashes first, as a scale: number 02, two bytes of clashes and four of minutes.
 ghost use Rattle.std.specs.Prelude.{◌≡◌};
 ghost use Rattle.scale.specs.ClashesModel.{clashes, clashes_bytes, clashes_coding};
-ghost use Rattle.scale.specs.ClashesLaws.{clashes_lawful, clashes_coded};
+ghost use Rattle.scale.specs.ClashesLaws.{clashes_lawful, clashes_coded, clashes_wide};
 
 use super::Clashes;
+use crate::bytes::write_front;
 use crate::scale::Scale;
 
 pub(crate) const NEVER: u16 = 1000;
@@ -33,15 +34,15 @@ impl Scale for Clashes {
 
     ghost coding = { clashes_coding };
 
+    ghost WIDTH = { 6 };
+
     const WIDTH: usize = 6;
 
     ghost lawful = { clashes_lawful };
 
     ghost coded = { clashes_coded };
 
-    fn byte_count() -> usize {
-        Self::WIDTH
-    }
+    ghost wide = { clashes_wide };
 
     fn number() -> u8 {
         2
@@ -71,11 +72,7 @@ impl Scale for Clashes {
     }
 
     fn at_most(self, other: Clashes) -> bool {
-        if self.clashes == other.clashes {
-            self.minutes <= other.minutes
-        } else {
-            self.clashes < other.clashes
-        }
+        self <= other
     }
 
     fn is_enterable(self) -> bool {
@@ -84,11 +81,7 @@ impl Scale for Clashes {
     }
 
     fn write(self, out: &mut [u8]) -> Option<usize> {
-        if out.len() < Self::WIDTH {
-            return None;
-        }
-        out[0..6].copy_from_slice(&self.to_bytes());
-        Some(Self::WIDTH)
+        write_front(out, &self.to_bytes())
     }
 
     fn read(from: &[u8]) -> Option<Clashes> {

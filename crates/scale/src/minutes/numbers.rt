@@ -1,6 +1,6 @@
 // Minutes as a number.
 ghost use Rattle.std.specs.Prelude.{◌≡◌};
-ghost use Rattle.scale.specs.MinutesModel.{minutes_of};
+ghost use Rattle.scale.specs.MinutesModel.{minutes_of, capped};
 
 use super::Minutes;
 use super::operations::NEVER;
@@ -14,6 +14,15 @@ impl Minutes {
             return None;
         }
         Some(Minutes { value })
+    }
+
+    // So many minutes, or never past 1,000,000,000.
+    pub fn capped(value: u32) -> Minutes
+        ensures { result ≡ capped value }
+    {
+        Minutes {
+            value: value.min(NEVER),
+        }
     }
 
     pub fn value(self) -> u32

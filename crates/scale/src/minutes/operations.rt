@@ -1,9 +1,10 @@
 // Minutes as a scale: number 01, four bytes.
 ghost use Rattle.std.specs.Prelude.{◌≡◌};
 ghost use Rattle.scale.specs.MinutesModel.{minutes, minutes_bytes, minutes_coding};
-ghost use Rattle.scale.specs.MinutesLaws.{minutes_lawful, minutes_coded};
+ghost use Rattle.scale.specs.MinutesLaws.{minutes_lawful, minutes_coded, minutes_wide};
 
 use super::Minutes;
+use crate::bytes::write_front;
 use crate::scale::Scale;
 
 pub(crate) const NEVER: u32 = 1_000_000_000;
@@ -28,15 +29,15 @@ impl Scale for Minutes {
 
     ghost coding = { minutes_coding };
 
+    ghost WIDTH = { 4 };
+
     const WIDTH: usize = 4;
 
     ghost lawful = { minutes_lawful };
 
     ghost coded = { minutes_coded };
 
-    fn byte_count() -> usize {
-        Self::WIDTH
-    }
+    ghost wide = { minutes_wide };
 
     fn number() -> u8 {
         1
@@ -51,14 +52,11 @@ impl Scale for Minutes {
     }
 
     fn join(self, other: Minutes) -> Minutes {
-        let sum = self.value + other.value;
-        Minutes {
-            value: sum.min(NEVER),
-        }
+        Minutes::capped(self.value + other.value)
     }
 
     fn at_most(self, other: Minutes) -> bool {
-        self.value <= other.value
+        self <= other
     }
 
     fn is_enterable(self) -> bool {
@@ -66,11 +64,7 @@ impl Scale for Minutes {
     }
 
     fn write(self, out: &mut [u8]) -> Option<usize> {
-        if out.len() < Self::WIDTH {
-            return None;
-        }
-        out[0..4].copy_from_slice(&self.to_bytes());
-        Some(Self::WIDTH)
+        write_front(out, &self.to_bytes())
     }
 
     fn read(from: &[u8]) -> Option<Minutes> {

@@ -1,17 +1,11 @@
 // Minutes in words, for a person.
-ghost use Rattle.std.specs.Prelude.{◌≡◌, Some};
-ghost use Rattle.scale.specs.MinutesWords.{minutes_noun, minutes_words};
+ghost use Rattle.std.specs.Prelude.{Some};
+ghost use Rattle.scale.specs.MinutesWords.{minutes_words};
 
 use super::Minutes;
 use super::operations::NEVER;
+use crate::words::noun;
 use std::fmt;
-
-// The word after so many.
-pub(crate) fn noun(count: u32) -> &'static str
-    ensures { result.now ≡ minutes_noun count }
-{
-    if count == 1 { "minute" } else { "minutes" }
-}
 
 // "never", "1 minute", "17 minutes"
 impl fmt::Display for Minutes {
@@ -22,7 +16,7 @@ impl fmt::Display for Minutes {
             return write!(f, "never");
         }
         let count = self.value;
-        let minutes = noun(count);
+        let minutes = noun(count, "minute", "minutes");
         write!(f, "{count} {minutes}")
     }
 }

@@ -1,11 +1,21 @@
 use Rattle.std.proofs.Common.{◌-◌, ◌*◌, ◌<◌, length, refl, arith, rules}
+use Rattle.std.proofs.lemmas.List.{get_or_default}
+use Rattle.head.specs.Bests.{at_first}
 use Rattle.head.proofs.Heeding.{heeds_at}
 use Rattle.head.proofs.receive.heed.Goals as goal
 
-pub offset_bounds-records-first : goal.offset_bounds-records-first
-offset_bounds-records-first g c = let h : 8 * (c.args.message.now.to - 1) < length c.args.records.now = omega arith in search rules
+pub offset_bounds-memory-head : goal.offset_bounds-memory-head
+offset_bounds-memory-head g c = let h : c.args.message.now.to - 1 < length c.args.memory.now.bests.now = omega arith in search rules
 
-pub returns : goal.returns
-returns g c =
-    heeds_at g.S.Scale.scale c.args.out c.args.job.now c.args.costs.now c.args.records.now c.args.bests.now _ _ c.args.message.now c.requires _ _ c.is_out.result c.best_of-best.result
-    c.respond-received.result _ c.respond-received.new.best _ _ _ refl (omega arith) c.is_out.ensures c.best_of-best.ensures c.keep_best.ensures c.respond-received.ensures
+pub offset_bounds-memory-first : goal.offset_bounds-memory-first
+offset_bounds-memory-first g c = let h : 8 * (c.args.message.now.to - 1) < length c.args.memory.now.records.now = omega arith in search rules
+
+pub offset_bounds-memory-head-2 : goal.offset_bounds-memory-head-2
+offset_bounds-memory-head-2 g c = let h : c.args.message.now.to - 1 < length c.args.memory.now.bests.now = omega arith in search rules
+
+pub returns-clause-heeds : goal.returns-clause-heeds
+returns-clause-heeds g c =
+    let at = c.args.message.now.to - 1 in
+    let best = get_or_default c.args.memory.now.bests.now at _ (at_first g.S.Scale.scale) (omega arith) in
+    heeds_at g.S.Scale.scale c.args.out c.args.prices.now.job.now c.args.prices.now.costs.now c.args.memory.now.records.now c.args.memory.now.bests.now _ _ c.args.message.now c.requires _ _ c.is_out.result _
+    c.respond-received.result _ c.respond-received.new.best _ _ _ refl (omega arith) c.is_out.ensures best refl c.respond-received.ensures

@@ -14,44 +14,44 @@ returns-in_default-Request g c = owing c.in_default-Request.is-1 (ap (expects c.
 
 pub returns-in-Gathering-Report : goal.returns-in-Gathering-Report
 returns-in-Gathering-Report g c =
-    chooses_going g.S.Scale.scale c.args.job.now c.args.costs.now c.args.known.now c.args.message.now c.args.best.now _ _ _ _ _ Report c.hear.result c.in-Gathering-Report.is-1 (λ e. let z : ◌≡◌ {A = ℕ} 0 1 = cc in omega arith)
+    chooses_going g.S.Scale.scale c.args.prices.now.job.now c.args.prices.now.costs.now c.args.known.now c.args.message.now c.args.best.now _ _ _ _ _ Report c.hear.result c.in-Gathering-Report.is-1 (λ e. let z : ◌≡◌ {A = ℕ} 0 1 = cc in omega arith)
     (ap (λ (st : State). expects st Report) c.in-Gathering-Report.is-0) c.hear.ensures
 
 pub returns-in-Resting-Plan : goal.returns-in-Resting-Plan
 returns-in-Resting-Plan g c =
-    chooses_going g.S.Scale.scale c.args.job.now c.args.costs.now c.args.known.now c.args.message.now c.args.best.now _ _ _ _ _ PlanMessage c.begin.result c.in-Resting-Plan.is-1 (λ e. let z : ◌≡◌ {A = ℕ} 0 1 = cc in omega arith)
+    chooses_going g.S.Scale.scale c.args.prices.now.job.now c.args.prices.now.costs.now c.args.known.now c.args.message.now c.args.best.now _ _ _ _ _ PlanMessage c.begin.result c.in-Resting-Plan.is-1 (λ e. let z : ◌≡◌ {A = ℕ} 0 1 = cc in omega arith)
     (ap (λ (st : State). expects st PlanMessage) c.in-Resting-Plan.is-0) c.begin.ensures
 
 pub returns-in-Below-Return : goal.returns-in-Below-Return
 returns-in-Below-Return g c =
-    chooses_going g.S.Scale.scale c.args.job.now c.args.costs.now c.args.known.now c.args.message.now c.args.best.now _ _ _ _ _ Return c.resume.result c.in-Below-Return.is-1 (λ e. let z : ◌≡◌ {A = ℕ} 0 1 = cc in omega arith)
+    chooses_going g.S.Scale.scale c.args.prices.now.job.now c.args.prices.now.costs.now c.args.known.now c.args.message.now c.args.best.now _ _ _ _ _ Return c.resume.result c.in-Below-Return.is-1 (λ e. let z : ◌≡◌ {A = ℕ} 0 1 = cc in omega arith)
     (ap (λ (st : State). expects st Return) c.in-Below-Return.is-0) c.resume.ensures
 
 pub returns-in_default-Notice : goal.returns-in_default-Notice
 returns-in_default-Notice g c =
-    chooses_going g.S.Scale.scale c.args.job.now c.args.costs.now c.args.known.now c.args.message.now c.args.best.now _ _ _ _ _ Notice c.quiet.result c.in_default-Notice.is-1 (λ e. let z : ◌≡◌ {A = ℕ} 0 1 = cc in omega arith) (expects_notice c.args.known.now.state)
-    (notices_so g.S.Scale.scale c.args.job.now c.args.costs.now c.args.known.now c.args.message.now c.args.best.now c.adopted-adopted.result c.quiet.result _ _
-    (c.adopted-adopted.ensures ∙ ap (λ (b : Best _). adopted g.S.Scale.scale b c.args.best.now) c.carried_by.ensures) c.quiet.ensures)
+    chooses_going g.S.Scale.scale c.args.prices.now.job.now c.args.prices.now.costs.now c.args.known.now c.args.message.now c.args.best.now _ _ _ _ _ Notice c.quiet.result c.in_default-Notice.is-1 (λ e. let z : ◌≡◌ {A = ℕ} 0 1 = cc in omega arith) (expects_notice c.args.known.now.state)
+    (notices_so g.S.Scale.scale c.args.prices.now.job.now c.args.prices.now.costs.now c.args.known.now c.args.message.now c.args.best.now c.adopted.result c.quiet.result _ _
+    (c.adopted.ensures ∙ ap (λ (b : Best _). adopted g.S.Scale.scale b c.args.best.now) c.carried_by.ensures) c.quiet.ensures)
 
 pub returns-in_default-Stop : goal.returns-in_default-Stop
 returns-in_default-Stop g c =
-    chooses_going g.S.Scale.scale c.args.job.now c.args.costs.now c.args.known.now c.args.message.now c.args.best.now _ _ _ _ _ Stop c.quiet-in_default-Stop.result c.in_default-Stop.is-1 (λ e. let z : ◌≡◌ {A = ℕ} 0 1 = cc in omega arith) (expects_stop c.args.known.now.state)
-    (stops_so g.S.Scale.scale c.args.job.now c.args.costs.now c.args.known.now c.args.message.now c.args.best.now c.carried_by-in_default-Stop.result c.quiet-in_default-Stop.result _ _ c.carried_by-in_default-Stop.ensures c.quiet-in_default-Stop.ensures)
+    chooses_going g.S.Scale.scale c.args.prices.now.job.now c.args.prices.now.costs.now c.args.known.now c.args.message.now c.args.best.now _ _ _ _ _ Stop c.quiet-in_default-Stop.result c.in_default-Stop.is-1 (λ e. let z : ◌≡◌ {A = ℕ} 0 1 = cc in omega arith) (expects_stop c.args.known.now.state)
+    (stops_so g.S.Scale.scale c.args.prices.now.job.now c.args.prices.now.costs.now c.args.known.now c.args.message.now c.args.best.now c.carried_by-in_default-Stop.result c.quiet-in_default-Stop.result _ _ c.carried_by-in_default-Stop.ensures c.quiet-in_default-Stop.ensures)
 
 pub returns-in-Resting-Report : goal.returns-in-Resting-Report
-returns-in-Resting-Report g c = chooses_none g.S.Scale.scale c.args.job.now c.args.costs.now c.args.known.now c.args.message.now c.args.best.now _ _ _ _ _ Resting Report c.in-Resting-Report.is-0 c.in-Resting-Report.is-1 refl refl refl refl
+returns-in-Resting-Report g c = chooses_none g.S.Scale.scale c.args.prices.now.job.now c.args.prices.now.costs.now c.args.known.now c.args.message.now c.args.best.now _ _ _ _ _ Resting Report c.in-Resting-Report.is-0 c.in-Resting-Report.is-1 refl refl refl refl
 
 pub returns-in-Resting-Return : goal.returns-in-Resting-Return
-returns-in-Resting-Return g c = chooses_none g.S.Scale.scale c.args.job.now c.args.costs.now c.args.known.now c.args.message.now c.args.best.now _ _ _ _ _ Resting Return c.in-Resting-Return.is-0 c.in-Resting-Return.is-1 refl refl refl refl
+returns-in-Resting-Return g c = chooses_none g.S.Scale.scale c.args.prices.now.job.now c.args.prices.now.costs.now c.args.known.now c.args.message.now c.args.best.now _ _ _ _ _ Resting Return c.in-Resting-Return.is-0 c.in-Resting-Return.is-1 refl refl refl refl
 
 pub returns-in-Gathering-Plan : goal.returns-in-Gathering-Plan
-returns-in-Gathering-Plan g c = chooses_none g.S.Scale.scale c.args.job.now c.args.costs.now c.args.known.now c.args.message.now c.args.best.now _ _ _ _ _ Gathering PlanMessage c.in-Gathering-Plan.is-0 c.in-Gathering-Plan.is-1 refl refl refl refl
+returns-in-Gathering-Plan g c = chooses_none g.S.Scale.scale c.args.prices.now.job.now c.args.prices.now.costs.now c.args.known.now c.args.message.now c.args.best.now _ _ _ _ _ Gathering PlanMessage c.in-Gathering-Plan.is-0 c.in-Gathering-Plan.is-1 refl refl refl refl
 
 pub returns-in-Gathering-Return : goal.returns-in-Gathering-Return
-returns-in-Gathering-Return g c = chooses_none g.S.Scale.scale c.args.job.now c.args.costs.now c.args.known.now c.args.message.now c.args.best.now _ _ _ _ _ Gathering Return c.in-Gathering-Return.is-0 c.in-Gathering-Return.is-1 refl refl refl refl
+returns-in-Gathering-Return g c = chooses_none g.S.Scale.scale c.args.prices.now.job.now c.args.prices.now.costs.now c.args.known.now c.args.message.now c.args.best.now _ _ _ _ _ Gathering Return c.in-Gathering-Return.is-0 c.in-Gathering-Return.is-1 refl refl refl refl
 
 pub returns-in-Below-Plan : goal.returns-in-Below-Plan
-returns-in-Below-Plan g c = chooses_none g.S.Scale.scale c.args.job.now c.args.costs.now c.args.known.now c.args.message.now c.args.best.now _ _ _ _ _ Below PlanMessage c.in-Below-Plan.is-0 c.in-Below-Plan.is-1 refl refl refl refl
+returns-in-Below-Plan g c = chooses_none g.S.Scale.scale c.args.prices.now.job.now c.args.prices.now.costs.now c.args.known.now c.args.message.now c.args.best.now _ _ _ _ _ Below PlanMessage c.in-Below-Plan.is-0 c.in-Below-Plan.is-1 refl refl refl refl
 
 pub returns-in-Below-Report : goal.returns-in-Below-Report
-returns-in-Below-Report g c = chooses_none g.S.Scale.scale c.args.job.now c.args.costs.now c.args.known.now c.args.message.now c.args.best.now _ _ _ _ _ Below Report c.in-Below-Report.is-0 c.in-Below-Report.is-1 refl refl refl refl
+returns-in-Below-Report g c = chooses_none g.S.Scale.scale c.args.prices.now.job.now c.args.prices.now.costs.now c.args.known.now c.args.message.now c.args.best.now _ _ _ _ _ Below Report c.in-Below-Report.is-0 c.in-Below-Report.is-1 refl refl refl refl

@@ -7,5 +7,5 @@ use Rattle.head.proofs.search.ask.Goals as goal
 
 pub returns : goal.returns
 returns g c =
-    let m = message Request c.args.head c.args.head c.args.search c.args.plan c.nothing.result in
-    sent_collected c.args.job.now (λ h. not (named c.args.plan h)) c.unnamed.result m _ _ _ _ _ _ c.unnamed.ensures c.nothing.ensures c.send_each.ensures
+    let m = message Request c.args.seat.head c.args.seat.head c.args.seat.search c.args.plan c.nothing.result in
+    sent_collected c.args.job.now (λ h. not (named c.args.plan h)) c.unnamed.result m _ _ _ _ _ _ c.unnamed.ensures c.nothing.ensures (simp c.message.ensures at c.send_each.ensures)

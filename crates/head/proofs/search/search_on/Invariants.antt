@@ -5,7 +5,7 @@ use Rattle.head.proofs.search.search_on.Given as goal
 
 abbrev pub invariant-loop-setup : goal.invariant-loop-setup
 invariant-loop-setup g l =
-    Tried g.S.Scale.scale l.job l.costs l.head l.search l.known l.known.untried l.initial.best (g.L.Link.limit l.initial.link) (g.L.Link.bag l.initial.link) l.untried l.best
+    Tried g.S.Scale.scale l.prices.job.now l.prices.costs.now l.seat.head l.seat.search l.known l.known.untried l.initial.best (g.L.Link.limit l.initial.link) (g.L.Link.bag l.initial.link) l.untried l.best
     (g.L.Link.limit l.link) (g.L.Link.bag l.link)
 
 abbrev pub decreases-loop-setup : goal.decreases-loop-setup

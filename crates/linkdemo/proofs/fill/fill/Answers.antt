@@ -1,18 +1,10 @@
-use Rattle.std.proofs.Common.{◌++◌, refl, ◌∙◌, append-nil, arith, length-append}
+use Rattle.std.proofs.Common.{◌++◌, ◌∙◌, arith, length-append}
 use Rattle.std.proofs.lemmas.List.{take_all}
 use Rattle.std.proofs.lemmas.Result.{err_from_is_err_and}
 use Rattle.problem.specs.Bags.{Same}
-use Rattle.link.proofs.Bags.{same_refl, same_length}
-use Rattle.linkdemo.proofs.Filling.{posted_more, too_many}
+use Rattle.link.proofs.Bags.{same_length}
+use Rattle.linkdemo.proofs.Filling.{too_many}
 use Rattle.linkdemo.proofs.fill.fill.Goals as goal
-
-pub loop-message-init : goal.loop-message-init
-loop-message-init g c = (refl, rw (append-nil (g.L.Link.bag c.args.link.now)) (same_refl _))
-
-pub loop-message-preserved : goal.loop-message-preserved
-loop-message-preserved g c =
-    let posted = c.in_ok-post.ensures in
-    (posted.1 ∙ c.loop-message.invariant.0, posted_more _ _ _ c.args.messages.now c.loop-message.message-index c.message-item.result (omega arith) c.message-item.is c.loop-message.invariant.1 posted.2)
 
 pub returns-in_err-post : goal.returns-in_err-post
 returns-in_err-post g c =

@@ -1,13 +1,17 @@
-use Rattle.std.proofs.Common.{sym, ◌∙◌, arith}
-use Rattle.job.proofs.Lists.{every_drop_fails, every_drop_passes, every_drop_all}
+use Rattle.std.proofs.Common.{◌≡◌, Bool, List, [], ◌∷◌, ◌&&◌, refl, ap, ◌∙◌, rules}
+use Rattle.std.specs.List.{list_all}
+use Rattle.std.proofs.lemmas.Iterator.{YieldsList-from_slice}
+use Rattle.std.proofs.lemmas.Iterator.Search.{all_from_yields_List}
+use Rattle.job.specs.Lists.{every}
 use Rattle.sheet.specs.Hex.{is_digit}
 use Rattle.sheet.proofs.line.all_digits.Goals as goal
 
-pub returns-then-not-is_digit : goal.returns-then-not-is_digit
-returns-then-not-is_digit c = sym (every_drop_fails is_digit c.args.digits.now c.loop-b.b-index 0 (omega arith) (sym c.if-not-is_digit.ensures)) ∙ c.loop-b.invariant
-
-pub loop-b-preserved : goal.loop-b-preserved
-loop-b-preserved c = sym (every_drop_passes is_digit c.args.digits.now c.loop-b.b-index 0 (omega arith) (sym c.if-not-is_digit.ensures)) ∙ c.loop-b.invariant
+all_every : {X : Type 0} (p : X → Bool) (xs : List X) → list_all p xs ≡ every p xs
+unfolding every
+all_every p [] = refl
+all_every p (x ∷ xs) = ap (λ b. p x && b) (all_every p xs)
 
 pub returns : goal.returns
-returns c = sym (every_drop_all is_digit c.args.digits.now c.loop-b.b-index (omega arith)) ∙ c.loop-b.invariant
+returns c =
+    let digits = c.args.digits.now in
+    all_from_yields_List is_digit _ _ c.all.result c.all.ensures.ran (YieldsList-from_slice digits cc) (λ x b q k. search rules) ∙ all_every is_digit digits

@@ -1,35 +1,45 @@
-use Rattle.std.proofs.Common.{◌≡◌, ℕ, List, ◌++◌, length, take, drop, replicate, sym, refl, ap, ◌∙◌, ap₂, arith}
-use Rattle.std.proofs.lemmas.List.{nil_from_length, length-take-le}
+use Rattle.std.proofs.Common.{◌≡◌, ℕ, Err, ◌++◌, length, drop, replicate, sym, refl, ap, ◌∙◌, arith}
+use Rattle.std.proofs.lemmas.List.{length-take-le, length-replicate}
+use Rattle.std.proofs.lemmas.Result.{err_from_is_err_and}
 use Rattle.sheet.specs.Lines.{lines}
 use Rattle.sheet.specs.Steps.{start}
-use Rattle.sheet.specs.Sheets.{sheet_laid, too_little, too_long, refused, granted}
+use Rattle.sheet.specs.Sheets.{too_little, too_long, refused, granted}
+use Rattle.sheet.specs.Fillings.{lines_filled}
 use Rattle.sheet.proofs.Lines.{read_ends}
+use Rattle.sheet.proofs.LaidOut.{lines_fill}
 use Rattle.sheet.proofs.read.read_exactly.Given as given
 use Rattle.sheet.proofs.read.read_exactly.Goals as goal
-use Rattle.sheet.proofs.read.read_exactly.Goals.{After-scan}
+use Rattle.sheet.proofs.read.read_exactly.Goals.{After-clear}
 
 pub returns-then-costs-lt-PLACES : goal.returns-then-costs-lt-PLACES
-returns-then-costs-lt-PLACES g c = too_little (omega arith) refl refl
+returns-then-costs-lt-PLACES g c = too_little (omega arith) (ap Err c.at_line.ensures) refl
 
 pub returns-then-sheet-gt-MOST_BYTES : goal.returns-then-sheet-gt-MOST_BYTES
-returns-then-sheet-gt-MOST_BYTES g c = too_long (omega arith) (omega arith) refl refl
+returns-then-sheet-gt-MOST_BYTES g c = too_long (omega arith) (omega arith) (ap Err c.at_line-then-sheet-gt-MOST_BYTES.ensures) refl
 
--- the first pass leaves the memory as it was
-untouched : (g : given.Over) (c : After-scan g) → c.scan.new.costs ++ c.args.costs.now ≡ c.args.costs.now
-untouched g c = ap (λ (xs : List g.row.S.Denot). xs ++ c.args.costs.now) (nil_from_length c.scan.new.costs c.scan.auto.costs)
+pub returns-in_err-progress : goal.returns-in_err-progress
+returns-in_err-progress g c =
+    let p = err_from_is_err_and c.from_residual.result c.from_residual.ensures.1 in
+    rw (p.1, p.2) (refused _ (omega arith) (omega arith) (sym c.in_err-progress.ensures) refl refl)
 
-pub returns-in-Err : goal.returns-in-Err
-returns-in-Err g c = refused c.in-Err.refusal (omega arith) (omega arith) (sym c.in-Err.ensures.value) refl (untouched g (goal.at.returns-in-Err g c).After-scan)
+-- all places have nothing before the tables are laid out
+cleared : (g : given.Over) (c : After-clear g) → c.clear.new.costs ≡ replicate 1792 g.S.Scale.scale.nothing
+cleared g c = c.clear.ensures ∙ ap (λ (n : ℕ). replicate n g.S.Scale.scale.nothing) (length-take-le 1792 _ (omega arith))
+
+pub lay_out-requires : goal.lay_out-requires
+lay_out-requires g c =
+    let long = ap length (cleared g (goal.at.lay_out-requires g c).After-clear) ∙ length-replicate 1792 g.S.Scale.scale.nothing in
+    omega arith
 
 pub told-requires : goal.told-requires
-told-requires g c =
-    record { sound = c.in-Ok.ensures.sound; whole = read_ends g.S.Scale.coding 1 start c.in-Ok.progress (lines c.args.sheet.now) (sym c.in-Ok.ensures.value) }
+told-requires g c = read_ends g.S.Scale.coding 1 start c.in_ok-progress.progress (lines c.args.sheet.now) (sym c.in_ok-progress.ensures)
 
 pub returns : goal.returns
 returns g c =
-    let none = g.S.Scale.scale.nothing in
-    let same : c.scan.new.costs ++ c.args.costs.now ≡ c.args.costs.now = untouched g (goal.at.returns g c).After-scan in
-    let long : length (take 1792 (c.scan.new.costs ++ c.args.costs.now)) ≡ 1792 = length-take-le 1792 _ (rw same (omega arith)) in
-    let cleared : c.clear.new.costs ≡ replicate 1792 none = c.clear.ensures ∙ ap (λ (n : ℕ). replicate n none) long in
-    granted c.in-Ok.progress c.told.result (omega arith) (omega arith) (sym c.in-Ok.ensures.value) c.told.ensures refl
-    (ap₂ ◌++◌ (c.scan-2.ensures.memory ∙ ap (sheet_laid g.S.Scale.coding c.args.sheet.now) cleared) (ap (drop 1792) same))
+    let coding = g.S.Scale.coding in
+    let sheet = c.args.sheet.now in
+    let p = c.in_ok-progress.progress in
+    let all = cleared g (goal.at.returns g c).After-clear in
+    let read = sym c.in_ok-progress.ensures in
+    granted p c.told.result (omega arith) (omega arith) read c.told.ensures refl
+    (ap (λ xs. xs ++ drop 1792 c.args.costs.now) (c.lay_out.ensures ∙ ap (lines_filled coding p (lines sheet)) all ∙ lines_fill coding p 1 start (lines sheet) _ read))
