@@ -3,6 +3,7 @@ ghost use Rattle.std.specs.Prelude.{◌≡◌, ◌+◌, ◌*◌, ◌<◌, ◌≤
 ghost use Rattle.answer.specs.Hex.{digit as digit_of, pair, hex};
 ghost use Rattle.answer.specs.Cursors.{Puts};
 
+// A digit, of which the letters are capital.
 fn digit(value: u8) -> u8
     requires { value < 16 }
     ensures { result ≡ digit_of value }

@@ -11,6 +11,13 @@ use run::run::packing::setups;
 use run::run::{Ended, Found};
 use scale::scale::Scale;
 
+// what a line begins with: that it tells a plan, that there is none, or the count
+const PLAN: u8 = 5;
+
+const NO_PLAN: u8 = 6;
+
+const COUNT: u8 = 7;
+
 // the most bytes of the two lines, and some to spare
 const ROOM: usize = 64;
 
@@ -19,7 +26,7 @@ fn put_found<S: Scale>(lines: &mut Lines<'_>, heads: u8, found: Found<S>)
     requires { lines.old.end + 33 ≤ length lines.old.out.now }
     ensures { Puts lines.old (line (outcome_bytes S.Scale.coding heads (Some found))) lines.new }
 {
-    lines.put_bytes(&[5, heads]);
+    lines.put_bytes(&[PLAN, heads]);
     lines.put_bytes(&setups(found.packed)[..(heads as usize).min(8)]);
     let mut bytes = [0; 6];
     let _ = found.cost.write(&mut bytes);
@@ -35,7 +42,7 @@ fn put_outcome<S: Scale>(lines: &mut Lines<'_>, heads: u8, outcome: Option<Found
     match outcome {
         Some(found) => put_found(lines, heads, found),
         None => {
-            lines.put_bytes(&[6]);
+            lines.put_bytes(&[NO_PLAN]);
             lines.end_line();
         }
     }
@@ -46,7 +53,7 @@ fn put_count(lines: &mut Lines<'_>, count: u64)
     requires { lines.old.end + 19 ≤ length lines.old.out.now }
     ensures { Puts lines.old (line (7 ∷ eight_bytes count)) lines.new }
 {
-    lines.put_bytes(&[7]);
+    lines.put_bytes(&[COUNT]);
     lines.put_bytes(&count.to_be_bytes());
     lines.end_line();
 }

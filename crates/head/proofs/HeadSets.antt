@@ -39,9 +39,6 @@ has_none (suc k) = elim (cases_Bool (ltb k 8)) [ inl e ↦ rw e (at k) | inr e �
     ]
 
 module _ (p : ℕ → Bool) where
-  pick : List ℕ → HeadSet
-  pick hs = heads_in (those p hs)
-
   pick_yes : (a : ℕ) (hs : List ℕ) → p a ≡ true → heads_in (those p (a ∷ hs)) ≡ with_head (heads_in (those p hs)) a
   unfolding heads_in
   pick_yes a hs e = ap heads_in (those_passes p a hs e)

@@ -1,5 +1,5 @@
 -- What a head does with each kind of message is what the reply says. Assumes nothing.
-use Rattle.std.proofs.Common.{◌≡◌, ℕ, zero, suc, ◌<◌, min, Bool, true, false, cond, not, ◌&&◌, ◌||◌, ltb, ◌≢◌, List, [], ◌∷◌, ◌++◌, get_or, sym, refl, ap, ◌∙◌, subst, ap₂, inl, inr, arith}
+use Rattle.std.proofs.Common.{◌≡◌, ℕ, zero, suc, ◌<◌, min, Bool, true, false, cond, not, ◌&&◌, ◌||◌, ltb, ◌≢◌, List, ◌++◌, get_or, sym, refl, ap, ◌∙◌, subst, ap₂, inl, inr, arith}
 use Rattle.std.proofs.lemmas.List.{get_or-set_other, get_or-replicate}
 use Rattle.std.proofs.lemmas.Bool.{cases_Bool, cases_eq, cases_lt, and_parts, or_cases, cond-true, cond-false, lt-ltb, ltb-true, not-true, both_ways}
 use Rattle.scale.specs.Operations.{Operations}
@@ -8,9 +8,8 @@ use Rattle.job.specs.declared.plan.Plan.{Plan}
 use Rattle.job.specs.Lists.{every}
 use Rattle.job.specs.Plans.{setups, is_setup, named, unnamed_heads, is_of_job}
 use Rattle.link.specs.declared.message.Kind.{Kind}
-use Rattle.link.specs.declared.message.Kind.TheVariants.{Request, Report, Plan as PlanMessage, Return, Notice, Stop}
+use Rattle.link.specs.declared.message.Kind.TheVariants.{Request, Report, Notice, Stop}
 use Rattle.link.specs.declared.message.Message.{Message}
-use Rattle.link.specs.Messages.{message}
 use Rattle.link.specs.HeadSets.{HeadSet, has_head, with_head, Picks}
 use Rattle.link.specs.Posting.{Sent}
 use Rattle.link.proofs.Posting.{sent_none}
@@ -24,10 +23,9 @@ use Rattle.job.specs.Sets.{first_places}
 use Rattle.head.specs.SetupSets.{SetupSet, no_setups, has_setup, first_setups}
 use Rattle.head.specs.Bests.{hopeless, adopted}
 use Rattle.head.specs.Views.{shows, Turns}
-use Rattle.head.specs.Searching.{search_on}
-use Rattle.head.specs.Replies.{Reply, on_trial, task, choice, carried, quietly, goes_on, heard_from, is_last, at_least, gathers_on, hands_on, on_return, reply, asks_picker}
+use Rattle.head.specs.Replies.{Reply, on_trial, choice, carried, quietly, heard_from, is_last, at_least, gathers_on, reply, asks_picker}
 use Rattle.head.specs.Strays.{untried_fit, expects}
-use Rattle.head.specs.Readiness.{Ready, Searches, Actable, Goes, quiet_turn, Chooses, unsuited, going}
+use Rattle.head.specs.Readiness.{Ready, Actable, Goes, quiet_turn, Chooses, unsuited, going}
 use Rattle.head.proofs.Ranges.{every_at, lawful_present}
 
 -- what a record in range lets a head search on with
@@ -104,39 +102,10 @@ module _ {S : Type 0} (s : Operations S) (j : Job) (costs : List S) (r : Record 
         goes_by Report 0 limit bag _ best limit bag (gathers_on s j costs r m best) (cond-false _ _ _ last)
         (unasked (ap (λ (b : Bool). b && not (hopeless s best (at_least s j costs r m))) last)) (ap shows (noted_is Gathering)) refl refl (sent_none limit bag)
 
-    module _ (none_missing : every (has_head heard) (unnamed_heads j plan) ≡ true) (least : S) (least_so : least ≡ s.join r.trial gathered) where
-      last_now : is_last s j costs r m ≡ true
-      last_now = sym all_heard ∙ none_missing
-
-      least_is : least ≡ at_least s j costs r m
-      least_is = least_so ∙ ap (s.join r.trial) joined
-
-      pub gives_up : (limit : ℕ) (bag : List (Message S)) (t : Turn S) (best' : Best S) (limit' : ℕ) (bag' : List (Message S)) → hopeless s best least ≡ true →
-          Searches (search_on s j costs m.to m.search (task r) r.untried best) limit bag t best' limit' bag' → Goes s j costs r m best Report limit bag t best' limit' bag'
-      gives_up limit bag t best' limit' bag' poor so =
-          let hopeless_so : hopeless s best (at_least s j costs r m) ≡ true = ap (hopeless s best) (sym least_is) ∙ poor in
-          goes_by Report 0 limit bag t best' limit' bag' (goes_on s j costs m.to m.search r best) (cond-true _ _ _ last_now ∙ cond-true _ _ _ hopeless_so)
-          (unasked (ap₂ (λ (a b : Bool). a && not b) last_now hopeless_so)) so.looks so.best so.home so.sent
-
-      pub hands_it_on : (picked limit : ℕ) (bag : List (Message S)) (lost : Bool) (limit' : ℕ) (bag' : List (Message S)) → hopeless s best least ≡ false → Picks (choice j m.to r) picked →
-          Sent limit bag (message PlanMessage picked m.to m.search plan r.trial ∷ []) lost limit' bag' →
-          Goes s j costs r m best Report limit bag (record { known = noted Below; home = false; lost = lost }) best limit' bag'
-      hands_it_on picked limit bag lost limit' bag' good picks sent =
-          let worth : hopeless s best (at_least s j costs r m) ≡ false = ap (hopeless s best) (sym least_is) ∙ good in
-          goes_by Report picked limit bag _ best limit' bag' (hands_on s j costs picked r m best) (cond-true _ _ _ last_now ∙ cond-false _ _ _ worth)
-          (λ _. picks) (ap shows (noted_is Below)) refl refl (subst (λ (q : Plan). Sent limit bag (message PlanMessage picked m.to m.search q r.trial ∷ []) lost limit' bag') plan_so sent)
-
   none_picked : (b : Bool) → b ≡ false → b ≡ true → Picks (choice j m.to r) 0
   none_picked b n e = absurd (both_ways b n e)
 
-  -- Return, notice and stop.
-  pub resumes_so : (kept : Best S) (limit : ℕ) (bag : List (Message S)) (t : Turn S) (best' : Best S) (limit' : ℕ) (bag' : List (Message S)) → kept ≡ adopted s (carried m) best →
-      Searches (search_on s j costs m.to m.search (task r) r.untried kept) limit bag t best' limit' bag' → Goes s j costs r m best Return limit bag t best' limit' bag'
-  resumes_so kept limit bag t best' limit' bag' is so =
-      let at : Searches (search_on s j costs m.to m.search (task r) r.untried (adopted s (carried m) best)) limit bag t best' limit' bag' =
-      subst (λ (b : Best S). Searches (search_on s j costs m.to m.search (task r) r.untried b) limit bag t best' limit' bag') is so in
-      goes_by Return 0 limit bag t best' limit' bag' (on_return s j costs r m best) refl (none_picked false refl) at.looks at.best at.home at.sent
-
+  -- Notice and stop.
   pub notices_so : (kept : Best S) (t : Turn S) (limit : ℕ) (bag : List (Message S)) → kept ≡ adopted s (carried m) best → t ≡ quiet_turn r → Goes s j costs r m best Notice limit bag t kept limit bag
   notices_so kept t limit bag is quiet =
       subst (λ (x : Turn S). Goes s j costs r m best Notice limit bag x kept limit bag) (sym quiet)

@@ -1,5 +1,5 @@
 -- A message taken out of the link, and what its head then makes of it, come to what receiving promises. Assumes nothing.
-use Rattle.std.proofs.Common.{◌≡◌, ℕ, ◌≤◌, Bool, true, false, ◌&&◌, leb, List, [], ◌∷◌, ◌++◌, length, Ok, Err, Result, sym, refl, ap, ◌∙◌, subst, ap₂, inl, inr, append-nil}
+use Rattle.std.proofs.Common.{◌≡◌, ℕ, Bool, true, false, ◌&&◌, leb, List, [], ◌∷◌, ◌++◌, length, Ok, Err, Result, sym, refl, ap, ◌∙◌, subst, ap₂, inl, inr, append-nil}
 use Rattle.std.proofs.lemmas.Bool.{cases_Bool, and_parts, leb-true, leb-false}
 use Rattle.scale.specs.Operations.{Operations}
 use Rattle.job.specs.declared.job.Job.{Job}
@@ -14,8 +14,7 @@ use Rattle.head.specs.declared.record.Record.{Record}
 use Rattle.head.specs.declared.receive.Received.{Received}
 use Rattle.head.specs.Strays.{is_addressed, is_sound, due, expects}
 use Rattle.head.specs.Lent.{Lent, lent, Enough, Lacks, are_enough, is_out}
-use Rattle.head.specs.Receiving.{its_record, replies, Heeds, Receives, Placed}
-use Rattle.head.proofs.Receipts.{to_range, search_small}
+use Rattle.head.specs.Receiving.{its_record, replies, Heeds, Receives}
 
 module _ {S : Type 0} (j : Job) (costs : List S) (records : List (Record S)) (bests : List (Best S)) (limit : ℕ) (bag : List (Message S)) where
   pub enough_so : are_enough records bests costs ≡ true → Enough (lent j costs records bests limit bag)
@@ -32,12 +31,6 @@ module _ {S : Type 0} (j : Job) (costs : List S) (records : List (Record S)) (be
       | inl z ↦ inr (inr (leb-false 1792 (length costs) (sym (ap₂ (λ (a b : Bool). a && (b && leb 1792 (length costs))) y z) ∙ e)))
     ]
   ]
-
--- an addressed message has its places, where there are enough records and bests
-pub placed_so : {S : Type 0} (j : Job) (records : List (Record S)) (bests : List (Best S)) (m : Message S) → 64 ≤ length records → 8 ≤ length bests → is_addressed j m ≡ true → Placed j records bests m
-placed_so j records bests m r b a =
-    let t = to_range j m a in
-    record { addressed = a; some_head = t.0; few_heads = t.1; few_searches = search_small j m a; enough_records = r; enough_bests = b }
 
 -- a message that is not from one head of the job to another is stray
 pub stray_address : {S : Type 0} (s : Operations S) (out : ℕ) (l : Lent S) (m : Message S) → is_addressed l.job m ≡ false → Heeds s out l m (Err Stray) l

@@ -13,6 +13,7 @@ use Rattle.link.specs.Posting.{Sent}
 use Rattle.head.specs.declared.record.State.TheVariants.{Resting, Gathering}
 use Rattle.head.specs.declared.record.Record.{Record}
 use Rattle.head.specs.declared.best.Best.{Best}
+use Rattle.head.specs.declared.seat.Seat.{Seat}
 use Rattle.head.specs.declared.search.Turn.{Turn}
 use Rattle.head.specs.declared.respond.Deed.{Deed}
 use Rattle.head.specs.declared.respond.Deed.TheVariants.{Owes, Goes as GoesOn, Unsuited}
@@ -28,6 +29,10 @@ pub record Ready (j : Job) (h : ℕ) (received : Plan) (untried : SetupSet) : Ty
   pub of_job : is_of_job j received ≡ true
   pub free : named received h ≡ false
   pub own : (i : ℕ) → has_setup untried i ≡ true → is_setup j h i ≡ true
+
+-- the seat that a message is for: its receiver, in its search
+abbrev pub seat_of : {S : Type 0} → Message S → Seat
+seat_of m = record { head = m.to; search = m.search }
 
 -- a record with another setup on trial
 abbrev pub with_trial : {S : Type 0} → Record S → ℕ → S → SetupSet → Record S

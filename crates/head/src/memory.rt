@@ -16,7 +16,7 @@ pub const RECORDS: usize = 64;
 pub const BESTS: usize = 8;
 
 // The records and the bests of all heads, as a caller lends them: head h has the row of eight records that begins at 8 × (h − 1),
-// one for each search, and the best at h − 1.
+// one for each search, and the best at h − 1. What takes a `&mut` of it says in a clause that both stay in their places: no type says so.
 #[derive(Drop)]
 pub struct Memory<'a, S> {
     pub records: &'a mut [Record<S>],

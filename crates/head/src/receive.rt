@@ -2,11 +2,11 @@
 ghost use Rattle.std.specs.Prelude.{◌≡◌, ◌-◌, ◌<◌, ◌≤◌, true, length, slice_index_or, slice_set};
 ghost use Rattle.head.specs.Bests.{at_first};
 ghost use Rattle.head.specs.Strays.{is_addressed as addressed_in};
-ghost use Rattle.head.specs.Lent.{lent, lent_by, SamePlaces, is_out as bit_set};
+ghost use Rattle.head.specs.Lent.{lent, lent_by, are_enough, SamePlaces, is_out as bit_set};
 ghost use Rattle.head.specs.Receiving.{Responds, Placed, Heeds, Receives};
 
 use crate::best::Best;
-use crate::memory::{Memory, ROW};
+use crate::memory::{BESTS, Memory, RECORDS, ROW};
 use crate::owed::OwedReport;
 use crate::record::Record;
 use crate::respond::{Deed, act};
@@ -15,6 +15,7 @@ use job::refusal::Refusal;
 use link::link::Link;
 use link::message::{Kind, Message};
 use link::picker::Picker;
+use problem::place::PLACES;
 use problem::price::{Prices, Problem};
 use scale::scale::Scale;
 
@@ -26,7 +27,14 @@ pub enum Received {
     Done { kind: Kind, home: bool, lost: bool },
 }
 
-// Whether a search is out, by its bit.
+// Whether there are 64 records, 8 bests and 1,792 costs: `Memory::is_enough` of records and bests that are lent for reading only.
+pub fn is_enough<S: Scale>(costs: &[S], records: &[Record<S>], bests: &[Best<S>]) -> bool
+    ensures { result ≡ are_enough records.now bests.now costs.now }
+{
+    records.len() >= RECORDS && bests.len() >= BESTS && costs.len() >= PLACES
+}
+
+// Whether a search is out, by its bit: `out` is of a run, and a run is a state of plain numbers.
 fn is_out(out: u8, search: u8) -> bool
     requires { search < 8 }
     ensures { result ≡ bit_set out search }
@@ -101,18 +109,17 @@ fn heed<S: Scale, L: Link<Message<S>>, P: Picker>(
 {
     let head = message.to as usize - 1;
     let first = ROW * head;
-    let mut best = memory.bests[head];
-    let received = respond(
+    // by a name of their own: the loan of an element, beside that of the row, does not go through the field
+    let bests = &mut *memory.bests;
+    respond(
         prices,
         link,
         picker,
         is_out(out, message.search),
         &mut memory.records[first..first + ROW],
-        &mut best,
+        &mut bests[head],
         message,
-    );
-    memory.bests[head] = best;
-    received
+    )
 }
 
 // Lets the head to which a message goes act, unless the message is not from one head of the job to another.
@@ -141,7 +148,7 @@ fn sort_out<S: Scale, L: Link<Message<S>>, P: Picker>(
 // Takes one message out of the link into the place, and lets its head act: on its own row of eight records, and on its best. Refused
 // with 7 for too little memory, with 11 where none waits, and with 13 where the message is stray; a stray message is taken, and the
 // rest stays. A request is not answered here: its report is owed, and `post_report` posts it. `out` tells by its bits which searches
-// are out.
+// are out, since a run is a state of plain numbers.
 pub fn receive<S: Scale, L: Link<Message<S>>, P: Picker>(
     out: u8,
     problem: &Problem<S>,

@@ -36,7 +36,8 @@ impl fmt::Display for State {
 #[derive(Clone, Copy)]
 pub struct Record<S> {
     pub state: State,
-    // the plan that the head was sent, its cost, and who sent it; nobody, 0, where the search began here
+    // the plan that the head was sent, its cost, and who sent it; nobody, 0, where the search began here: heads are bytes in records as
+    // in messages, and 0 is no head
     pub received: Plan,
     pub cost: S,
     pub sender: u8,

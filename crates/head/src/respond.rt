@@ -1,4 +1,5 @@
-// What a head does with a message that fits the job and its record: one case for each state and kind.
+// What a head does with a message that fits the job and its record: one case for each state and kind. Link, picker, best and record are
+// parameters of their own: a struct around several `&mut` would need a clause for each of their names in every function.
 ghost use Rattle.std.specs.Prelude.{◌≡◌};
 ghost use Rattle.job.specs.Lists.{every};
 ghost use Rattle.job.specs.Plans.{unnamed_heads};
@@ -43,10 +44,7 @@ fn hear<S: Scale, L: Link<Message<S>>, P: Picker>(
     requires { Actable prices.now.job.now message.now.to known.now }
     ensures { Goes S.Scale.scale prices.now.job.now prices.now.costs.now known.now message.now best.old Report (L.Link.limit link.old) (L.Link.bag link.old) result best.new (L.Link.limit link.new) (L.Link.bag link.new) }
 {
-    let seat = Seat {
-        head: message.to,
-        search: message.search,
-    };
+    let seat = Seat::of(message);
     let plan = known.received.name(seat.head, known.setup);
     let gathered = known.gathered.join(message.cost);
     let heard = known.heard.with(message.from);
@@ -97,10 +95,7 @@ fn begin<S: Scale, L: Link<Message<S>>>(
         untried: SetupSet::below(prices.job.setups(message.to)),
         ..*known
     };
-    let seat = Seat {
-        head: message.to,
-        search: message.search,
-    };
+    let seat = Seat::of(message);
     search_on(prices, link, seat, &taken, best)
 }
 
@@ -116,10 +111,7 @@ fn resume<S: Scale, L: Link<Message<S>>>(
     ensures { Goes S.Scale.scale prices.now.job.now prices.now.costs.now known.now message.now best.old Return (L.Link.limit link.old) (L.Link.bag link.old) result best.new (L.Link.limit link.new) (L.Link.bag link.new) }
 {
     *best = best.adopted(carried_by(message));
-    let seat = Seat {
-        head: message.to,
-        search: message.search,
-    };
+    let seat = Seat::of(message);
     search_on(prices, link, seat, known, best)
 }
 
@@ -182,11 +174,8 @@ pub(crate) fn act<S: Scale, L: Link<Message<S>>, P: Picker>(
             *best = carried_by(message);
             Deed::Goes(quiet(known))
         }
-        (State::Resting, Kind::Report) => Deed::Unsuited,
-        (State::Resting, Kind::Return) => Deed::Unsuited,
-        (State::Gathering, Kind::Plan) => Deed::Unsuited,
-        (State::Gathering, Kind::Return) => Deed::Unsuited,
-        (State::Below, Kind::Plan) => Deed::Unsuited,
-        (State::Below, Kind::Report) => Deed::Unsuited,
+        (State::Resting, Kind::Report | Kind::Return)
+        | (State::Gathering, Kind::Plan | Kind::Return)
+        | (State::Below, Kind::Plan | Kind::Report) => Deed::Unsuited,
     }
 }

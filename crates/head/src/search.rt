@@ -1,4 +1,5 @@
-// Searching on: a head tries the setups that are left.
+// Searching on: a head tries the setups that are left. Link, best and record are parameters of their own: a struct around several `&mut`
+// would need a clause for each of their names in every function.
 ghost use Rattle.std.specs.Prelude.{◌≡◌, false, map};
 ghost use Rattle.job.specs.Plans.{unnamed_heads};
 ghost use Rattle.link.specs.declared.message.Kind.TheVariants.{Notice, Request};
@@ -21,7 +22,8 @@ use link::sending::send;
 use problem::price::Prices;
 use scale::scale::Scale;
 
-// What a head's act comes to, besides its best: its record, whether the search came home, and whether a message was lost.
+// What a head's act comes to, besides its best: its record, whether the search came home, and whether a message was lost. `lost` is a
+// flag, since the act is done all the same: it is no refusal.
 #[derive(Clone, Copy)]
 pub struct Turn<S> {
     pub known: Record<S>,

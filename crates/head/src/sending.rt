@@ -41,6 +41,7 @@ pub fn send_each<S: Scale, L: Link<Message<S>>>(
 ) -> bool
     ensures { Sent (L.Link.limit link.old) (L.Link.bag link.old) (to_each message (heads_of job.now heads)) result (L.Link.limit link.new) (L.Link.bag link.new) }
 {
+    // a loop, since each turn writes to the link
     let mut lost = false;
     for h in 1..=job.heads() {
         if heads.has(h) {

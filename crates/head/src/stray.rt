@@ -35,7 +35,8 @@ fn has_own_heads(job: &Job, heard: &HeadSet) -> bool
     (1..=8u8).all(|h| !heard.has(h) || job.setups(h) >= 1)
 }
 
-// Whether the sender is another head of the job; at head 1 it may also be nobody.
+// Whether the sender is another head of the job; at head 1 it may also be nobody, 0: heads are bytes in records as in messages, and 0 is
+// no head.
 fn sender_fits(job: &Job, head: u8, sender: u8) -> bool
     ensures { result ≡ sender_in job.now head sender }
 {

@@ -16,6 +16,7 @@ use head::record::State;
 use job::job::Job;
 use plans::PLANS;
 use problem::place::PLACES;
+use problem::price::Problem;
 use run::run;
 use scale::minutes::Minutes;
 use scale::scale::Scale;
@@ -27,11 +28,11 @@ const STATES: [State; 3] = [State::Resting, State::Gathering, State::Below];
 
 const KINDS: [Case; 6] = [REQUEST, REPORT, PLAN, RETURN, NOTICE, STOP];
 
-fn each_state_and_kind(rt: &HostRuntime, job: &Job, costs: &[Minutes]) -> anyhow::Result<()> {
+fn each_state_and_kind(rt: &HostRuntime, problem: &Problem<Minutes>) -> anyhow::Result<()> {
     println!(rt; "Each state of the record, each kind of message:")?;
     for state in STATES {
         for case in KINDS {
-            run(rt, job, costs, &Case { state, ..case })?;
+            run(rt, problem, &Case { state, ..case })?;
         }
     }
     Ok(())
@@ -40,13 +41,12 @@ fn each_state_and_kind(rt: &HostRuntime, job: &Job, costs: &[Minutes]) -> anyhow
 fn each_of(
     rt: &HostRuntime,
     title: &str,
-    job: &Job,
-    costs: &[Minutes],
+    problem: &Problem<Minutes>,
     cases: &[Case],
 ) -> anyhow::Result<()> {
     println!(rt; "{title}:")?;
     for case in cases {
-        run(rt, job, costs, case)?;
+        run(rt, problem, case)?;
     }
     Ok(())
 }
@@ -55,16 +55,14 @@ fn all(rt: &HostRuntime) -> anyhow::Result<()> {
     let job = Job::new(&[2, 2, 2])?;
     let mut costs = [Minutes::nothing(); PLACES];
     lay_out(&mut costs);
-    each_state_and_kind(rt, &job, &costs)?;
-    each_of(rt, "Stray messages", &job, &costs, &STRAYS)?;
-    each_of(rt, "Requests and reports", &job, &costs, &ANSWERS)?;
-    each_of(
-        rt,
-        "Plans, returns, notices and stops",
-        &job,
-        &costs,
-        &PLANS,
-    )
+    let problem = Problem {
+        job: &job,
+        costs: &costs,
+    };
+    each_state_and_kind(rt, &problem)?;
+    each_of(rt, "Stray messages", &problem, &STRAYS)?;
+    each_of(rt, "Requests and reports", &problem, &ANSWERS)?;
+    each_of(rt, "Plans, returns, notices and stops", &problem, &PLANS)
 }
 
 // A failure ends the program with status 1 and prints nothing; an error that `main` answers would be printed.

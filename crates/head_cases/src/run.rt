@@ -7,7 +7,6 @@ use head::memory::{BESTS, Memory, RECORDS, ROW};
 use head::owed::post_report;
 use head::receive::{Received, receive};
 use head::record::{Record, State};
-use job::job::Job;
 use job::refusal::Refusal;
 use link::first_in::FirstIn;
 use link::link::Link;
@@ -17,7 +16,7 @@ use problem::price::Problem;
 use scale::minutes::Minutes;
 
 // the most messages that the link of a case can hold
-const PLACES: usize = 64;
+const LIMIT: usize = 64;
 
 // Where the record of the message's receiver lies.
 fn spot(case: &Case) -> usize {
@@ -25,25 +24,20 @@ fn spot(case: &Case) -> usize {
 }
 
 // Posts the message, lets its head receive it, and prints a line of what comes of that.
-pub(crate) fn run(
-    rt: &HostRuntime,
-    job: &Job,
-    costs: &[Minutes],
-    case: &Case,
-) -> anyhow::Result<()> {
-    let mut places = [message(case); PLACES];
-    let room = case.places.min(PLACES);
+pub(crate) fn run(rt: &HostRuntime, problem: &Problem<Minutes>, case: &Case) -> anyhow::Result<()> {
+    let mut places = [message(case); LIMIT];
+    let room = case.places.min(LIMIT);
     let mut link = FirstIn::new(&mut places[..room]);
     link.post(message(case))?;
     let mut bests = [best(case); BESTS];
-    let before = known(job, costs, case);
+    let before = known(problem, case);
     let mut records = rested(before);
     put(&mut records, spot(case), before);
     let mut memory = Memory {
         records: &mut records,
         bests: &mut bests,
     };
-    let answer = Answer(acted(&Problem { job, costs }, &mut link, &mut memory, case));
+    let answer = Answer(acted(problem, &mut link, &mut memory, case));
     let title = Title(case);
     print!(rt; "  {title}: {answer}")?;
     show_head(rt, &records, &bests, case)?;

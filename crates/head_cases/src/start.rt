@@ -3,7 +3,6 @@ use crate::case::Case;
 use head::best::Best;
 use head::record::Record;
 use head::setups::SetupSet;
-use job::job::Job;
 use job::plan::Plan;
 use link::heads::HeadSet;
 use link::message::Message;
@@ -76,14 +75,14 @@ pub(crate) fn best(case: &Case) -> Best<Minutes> {
 }
 
 // The head's record: in search v head 1 tries its setup v alone, and hands it on to the others, which try both of theirs.
-pub(crate) fn known(job: &Job, costs: &[Minutes], case: &Case) -> Record<Minutes> {
+pub(crate) fn known(problem: &Problem<Minutes>, case: &Case) -> Record<Minutes> {
     let began = case.to == 1;
     let received = if began {
         Plan::empty()
     } else {
         Plan::empty().name(1, case.search)
     };
-    let trial = Problem { job, costs }.against(case.to, case.setup, &received);
+    let trial = problem.against(case.to, case.setup, &received);
     Record {
         state: case.state,
         received,

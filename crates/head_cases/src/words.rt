@@ -6,7 +6,7 @@ use scale::minutes::Minutes;
 use scale::scale::Scale;
 use std::fmt;
 
-// As "gathering report 3>2", with the note after a comma.
+// As "gathering 3>2 report", with the note after a comma.
 #[derive(Drop)]
 pub(crate) struct Title<'a>(pub(crate) &'a Case);
 
@@ -22,7 +22,8 @@ impl fmt::Display for Title<'_> {
     }
 }
 
-// What a head that received a message did: it acted on it, or owed a report, which was posted then or refused.
+// What a head that received a message did: it acted on it, or owed a report, which was posted then or refused. `Received` itself is not
+// let go, so it is not kept to be printed.
 #[derive(Drop)]
 pub(crate) enum Acted {
     Done { kind: Kind, home: bool, lost: bool },
@@ -61,15 +62,15 @@ pub(crate) struct Cost(pub(crate) Minutes);
 
 impl fmt::Display for Cost {
     fn fmt<W: fmt::Write>(&self, f: &mut fmt::Formatter<W>) -> fmt::Result {
-        let minutes = self.0.value();
-        if minutes == Minutes::never().value() {
+        if self.0 == Minutes::never() {
             return write!(f, "none");
         }
+        let minutes = self.0.value();
         write!(f, "{minutes}")
     }
 }
 
-// As "report 3>2 120".
+// As "3>2 report 120".
 #[derive(Drop)]
 pub(crate) struct Words<'a>(pub(crate) &'a Message<Minutes>);
 

@@ -7,7 +7,7 @@ use Rattle.std.specs.Bool.{then_some}
 use Rattle.std.proofs.lemmas.List.FromFn.{length-range_with_len}
 use Rattle.std.proofs.lemmas.Iterator.{YieldsList}
 use Rattle.std.proofs.lemmas.Iterator.Consumers.{YieldsList-from_shown}
-use Rattle.std.specs.List.{find, range_with_len}
+use Rattle.std.specs.List.{find, fold, range_with_len}
 use Rattle.std.specs.Iterator.Adapters.{rev_source, rev_steps}
 use Rattle.std.specs.Range.{range_steps_back}
 use Rattle.std.specs.declared.iter.Rev.{Rev}
@@ -64,7 +64,7 @@ setting_none (suc f) zero m b e long = refl
 setting_none (suc f) (suc n) m b e long = setting_none f n m b e long
 
 -- the numbers below another, and one more
-pub below_none : (f n : ℕ) → n ≤ f → none_of f ≡ below f n
+below_none : (f n : ℕ) → n ≤ f → none_of f ≡ below f n
 unfolding first_places
 below_none f n le = let e : 0 ≡ min (n - f) 8 = omega arith in ap (λ (k : ℕ). record { members = first_places k }) e
 
@@ -82,7 +82,7 @@ first_more : (k : ℕ) → set (first_places k) k true ≡ first_places (suc k)
 unfolding first_places
 first_more k = refl
 
-pub below_more : (f n : ℕ) → f ≤ n → with f (below f n) n ≡ below f (n + 1)
+below_more : (f n : ℕ) → f ≤ n → with f (below f n) n ≡ below f (n + 1)
 below_more f n le = elim (cases_lt (n - f) 8) [
   | inl lt ↦
       let a : min (n - f) 8 ≡ n - f = omega arith in
@@ -94,6 +94,20 @@ below_more f n le = elim (cases_lt (n - f) 8) [
       ap (λ (xs : List Bool). record { members = xs })
       (setting_at f n (first_places (min (n - f) 8)) true le (first_length _) ∙ set_past (first_places (min (n - f) 8)) (n - f) true (omega (arith, first_length (min (n - f) 8))) ∙ ap first_places a)
 ]
+
+-- number after number put into a set that has those before them
+below_then : (f m n : ℕ) → f ≤ m → fold (with f) (below f m) (range_with_len m n) ≡ below f (m + n)
+below_then f m zero le = let e : m ≡ m + 0 = omega arith in ap (below f) e
+below_then f m (suc n) le =
+    let e : m + 1 + n ≡ m + suc n = omega arith in
+    ap (λ s. fold (with f) s (range_with_len (m + 1) n)) (below_more f m le) ∙ below_then f (m + 1) n (omega arith) ∙ ap (below f) e
+
+pub below_put_together : (f n : ℕ) → fold (with f) (none_of f) (range_with_len f (n - f)) ≡ below f n
+below_put_together f n =
+    let e : min (f + (n - f) - f) 8 ≡ min (n - f) 8 = omega arith in
+    ap (λ s. fold (with f) s (range_with_len f (n - f))) (below_none f f (omega arith))
+    ∙ below_then f f (n - f) (omega arith)
+    ∙ ap (λ (k : ℕ). record { members = first_places k }) e
 
 -- the first member of a list is what a search finds
 pub first_found : (p : ℕ → Bool) (xs : List ℕ) → find p xs ≡ head_of (those p xs)

@@ -1,9 +1,13 @@
 -- What the code reads of plans and jobs, in the words of the definitions. Assumes nothing.
-use Rattle.std.proofs.Common.{◌≡◌, ℕ, zero, suc, ◌+◌, ◌-◌, ◌*◌, ◌^◌, ◌<◌, ◌≤◌, not, ◌||◌, ltb, ◌⊎◌, length, get_or, refl, ap, ◌∙◌, inl, inr, arith, pow-add}
+use Rattle.std.proofs.Common.{◌≡◌, ℕ, zero, suc, ◌+◌, ◌-◌, ◌*◌, ◌^◌, ◌<◌, ◌≤◌, not, ◌||◌, ltb, ◌⊎◌, List, [], ◌∷◌, length, get_or, refl, sym, ap, subst, ◌∙◌, inl, inr, mul_assoc, arith, pow-add, take, map, Option, length-take}
 use native.Mathlib.Nat.{pow-le-pow_right}
-use Rattle.std.specs.List.{range_with_len}
+use Rattle.std.specs.List.{fold, range_with_len}
 use Rattle.std.proofs.lemmas.Nat.{mul-le}
-use Rattle.std.proofs.lemmas.List.{get_or_default}
+use Rattle.std.proofs.lemmas.List.{get_or_default, get_or-take, map-id}
+use Rattle.std.proofs.lemmas.Iterator.{YieldsList}
+use Rattle.std.proofs.lemmas.Iterator.Consumers.{YieldsList-so_far}
+use Rattle.std.specs.Iterator.{Yields}
+use Rattle.std.specs.Iterator.Runs.{EachRunFrom, YieldsRun}
 use Rattle.std.proofs.lemmas.Bool.{cond-true, cond-false, lt-ltb, le-ltb}
 use Rattle.job.specs.declared.job.Job.{Job}
 use Rattle.job.specs.declared.plan.Plan.{Plan}
@@ -38,24 +42,36 @@ pub allowed_at : (j : Job) (q : Plan) (k : ℕ) → length q.setups ≡ 8 → k 
     (not (named q (1 + k)) || is_setup j (1 + k) (setup q (1 + k))) ≡ (not (ltb (get_or q.setups k 0) 255) || ltb (get_or q.setups k 0) (get_or j.setups k 0))
 allowed_at j q k long lt = rw (setup_at q long k lt, setups_at j k)
 
--- the product over the heads past k, one at a time
-pub product_step : (j : Job) (n k : ℕ) → k < n →
-    product (setups j) (range_with_len (1 + k) (n - k)) ≡ get_or j.setups k 0 * product (setups j) (range_with_len (1 + (k + 1)) (n - (k + 1)))
+-- the product of the members of a list, that are what q gives from s on
+pub product_along : (q : ℕ → ℕ) (xs : List ℕ) (s n a : ℕ) → length xs ≡ n → ((k : ℕ) → k < n → q (s + k) ≡ get_or xs k 0) → fold (λ b x. b * x) a xs ≡ a * product q (range_with_len s n)
 unfolding product
-product_step j n k h =
-    let e : n - k ≡ suc (n - (k + 1)) = omega arith in
-    let f : 1 + k + 1 ≡ 1 + (k + 1) = omega arith in
-    ap (λ (x : ℕ). product (setups j) (range_with_len (1 + k) x)) e
-    ∙ ap (λ (y : ℕ). setups j (1 + k) * product (setups j) (range_with_len y (n - (k + 1)))) f
-    ∙ ap (λ (x : ℕ). x * product (setups j) (range_with_len (1 + (k + 1)) (n - (k + 1)))) (setups_at j k)
-
-pub product_end : (j : Job) (n k : ℕ) → n ≤ k → product (setups j) (range_with_len (1 + k) (n - k)) ≡ 1
-unfolding product
-product_end j n k h = let e : n - k ≡ 0 = omega arith in ap (λ (x : ℕ). product (setups j) (range_with_len (1 + k) x)) e
+product_along q [] s zero a e h = omega arith
+product_along q [] s (suc n) a e h = absurd (omega arith)
+product_along q (x ∷ xs) s zero a e h = absurd (omega arith)
+product_along q (x ∷ xs) s (suc n) a e h =
+    let z : s + 0 ≡ s = omega arith in
+    let here : q s ≡ x = ap q (sym z) ∙ h 0 (omega arith) in
+    let later = product_along q xs (s + 1) n (a * x) (omega arith) (λ k lt. let z : s + 1 + k ≡ s + suc k = omega arith in ap q z ∙ h (suc k) (omega arith)) in
+    later ∙ mul_assoc a x _ ∙ ap (λ (y : ℕ). a * (y * product q (range_with_len (s + 1) n))) (sym here)
 
 -- k factors of at most 8, and one more
-pub power_step : (x d k : ℕ) → x ≤ 8 ^ k → d ≤ 8 → x * d ≤ 8 ^ (k + 1)
+power_step : (x d k : ℕ) → x ≤ 8 ^ k → d ≤ 8 → x * d ≤ 8 ^ (k + 1)
 power_step x d k h l = omega (arith, mul-le x d (8 ^ k) 8 h l, pow-add 8 k 1)
 
-pub power_small : (x k : ℕ) → x ≤ 8 ^ k → k ≤ 8 → x < 2 ^ 32
+power_small : (x k : ℕ) → x ≤ 8 ^ k → k ≤ 8 → x < 2 ^ 32
 power_small x k h l = omega (arith, pow-le-pow_right {n = 8} (omega arith) l)
+
+fold_small : (xs : List ℕ) (a k : ℕ) → a ≤ 8 ^ k → ((i : ℕ) → i < length xs → get_or xs i 0 ≤ 8) → fold (λ b x. b * x) a xs ≤ 8 ^ (k + length xs)
+fold_small [] a k h few = let e : k ≡ k + 0 = omega arith in subst (λ (i : ℕ). a ≤ 8 ^ i) e h
+fold_small (x ∷ xs) a k h few =
+    let e : k + 1 + length xs ≡ k + suc (length xs) = omega arith in
+    subst (λ (i : ℕ). fold (λ b y. b * y) (a * x) xs ≤ 8 ^ i) e (fold_small xs (a * x) (k + 1) (power_step a x k h (few 0 (omega arith))) (λ i lt. few (suc i) (omega arith)))
+
+-- the product of what a chain gives, along each run
+pub product_fits : {S : Type 0} {steps : S → Option ℕ → S → Type 0} (all : List ℕ) (s : S) → YieldsList steps (λ x. x) s (map (λ x. x) all) → length all ≤ 8 → ((i : ℕ) → i < length all → get_or all i 0 ≤ 8) → EachRunFrom steps s (λ p. fold (λ b x. b * x) 1 p.items < 2 ^ 32)
+unfolding YieldsRun
+product_fits {steps = steps} all s e short few = λ p _ at.
+    let n = length p.items in
+    let is : p.items ≡ take n all = sym (map-id p.items) ∙ YieldsList-so_far e p.items p.gave.0.0 (subst (λ u. Yields steps u p.items p.gave.0.0) at p.gave.0.1) ∙ ap (take n) (map-id all) in
+    let small : fold (λ b x. b * x) 1 (take n all) < 2 ^ 32 = power_small _ (0 + length (take n all)) (fold_small (take n all) 1 0 (omega arith) (λ i lt. subst (λ (d : ℕ). d ≤ 8) (sym (get_or-take n all i 0 (omega (arith, lt, length-take n all)))) (few i (omega (arith, lt, length-take n all))))) (omega (arith, length-take n all)) in
+    subst (λ (xs : List ℕ). fold (λ b x. b * x) 1 xs < 2 ^ 32) (sym is) small

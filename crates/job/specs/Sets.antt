@@ -36,11 +36,15 @@ below f n = record { members = first_places (min (n - f) 8) }
 abbrev pub has : (f : ℕ) → Set f → ℕ → Bool
 has f s n = among f s.members n
 
+-- the set with n in it or not, as b says
+abbrev pub put : (f : ℕ) → Set f → ℕ → Bool → Set f
+put f s n b = record { members = setting f s.members n b }
+
 abbrev pub with : (f : ℕ) → Set f → ℕ → Set f
-with f s n = record { members = setting f s.members n true }
+with f s n = put f s n true
 
 abbrev pub without : (f : ℕ) → Set f → ℕ → Set f
-without f s n = record { members = setting f s.members n false }
+without f s n = put f s n false
 
 -- the set of one number
 abbrev pub only : (f : ℕ) → ℕ → Set f

@@ -1,6 +1,6 @@
 // Sets of eight numbers.
 ghost use Rattle.std.specs.Prelude.{◌≡◌};
-ghost use Rattle.job.specs.Sets.{none_of, place_of, has as has_number, with as with_number, without as without_number, below as numbers_below, only as only_number, lowest as lowest_of, highest as highest_of};
+ghost use Rattle.job.specs.Sets.{none_of, place_of, has as has_number, put as put_number, with as with_number, without as without_number, below as numbers_below, only as only_number, lowest as lowest_of, highest as highest_of};
 
 // A set of some of the eight numbers from FIRST on: the number n is in it where `members[n - FIRST]` is set. Every other number is
 // in no set.
@@ -28,15 +28,10 @@ impl<const FIRST: u8> Set<FIRST> {
     }
 
     // The numbers below a number.
-    #[tactic(auto, using(crate::proofs::Members::below_none, crate::proofs::Members::below_more))]
     pub fn below(end: u8) -> Set<FIRST>
         ensures { result ≡ numbers_below FIRST end }
     {
-        let mut set = Set::empty();
-        for number in FIRST..end {
-            set = set.with(number);
-        }
-        set
+        (FIRST..end).fold(Set::empty(), Set::with)
     }
 
     // The set of one number; the empty one for a number that has no place.
@@ -50,36 +45,39 @@ impl<const FIRST: u8> Set<FIRST> {
     pub fn has(&self, number: u8) -> bool
         ensures { result ≡ has_number FIRST self.now number }
     {
+        // `is_some_and` would be longer: what its closure reads is known only from a clause on the closure.
         match Self::place(number) {
             Some(place) => self.members[place],
             None => false,
         }
     }
 
-    // The set with one more number; a number that has no place changes nothing.
+    // The set with a number in it or not; a number that has no place changes nothing.
     #[tactic(auto, using(crate::proofs::Members::at_place, crate::proofs::Members::setting_none))]
+    fn put(self, number: u8, member: bool) -> Set<FIRST>
+        ensures { result ≡ put_number FIRST self.entry number member }
+    {
+        let mut members = self.members;
+        if let Some(place) = Self::place(number) {
+            members[place] = member;
+        }
+        Set { members }
+    }
+
+    // The set with one more number; a number that has no place changes nothing.
     pub fn with(self, number: u8) -> Set<FIRST>
         ensures { result ≡ with_number FIRST self.entry number }
     {
-        let mut members = self.members;
-        if let Some(place) = Self::place(number) {
-            members[place] = true;
-        }
-        Set { members }
+        self.put(number, true)
     }
 
-    #[tactic(auto, using(crate::proofs::Members::at_place, crate::proofs::Members::setting_none))]
     pub fn without(self, number: u8) -> Set<FIRST>
         ensures { result ≡ without_number FIRST self.entry number }
     {
-        let mut members = self.members;
-        if let Some(place) = Self::place(number) {
-            members[place] = false;
-        }
-        Set { members }
+        self.put(number, false)
     }
 
-    // The member with the lowest number.
+    // The member with the lowest number. What the closures here and below answer is known only from their clauses.
     pub fn lowest(&self) -> Option<u8>
         ensures { result ≡ lowest_of FIRST self.now }
     {

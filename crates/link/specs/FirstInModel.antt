@@ -1,14 +1,14 @@
 -- What waits in a first-in link, and its limit. Assumes nothing.
 use Rattle.std.specs.Prelude.{ℕ, ◌≤◌, List, length}
-use Rattle.link.specs.declared.first_in.FirstIn.{FirstIn}
-use Rattle.link.specs.QueueModel.{limit_of, waiting_in, room_in}
+use Rattle.link.specs.declared.row.Row.{Row}
+use Rattle.link.specs.RowModel.{row_limit, row_waiting, row_room}
 
-abbrev pub first_in_limit : {M : Type 0} → FirstIn M → ℕ
-first_in_limit l = limit_of l.queue
+module _ {M : Type 0} where
+  abbrev pub first_in_limit : Row M 0 → ℕ
+  first_in_limit l = row_limit l
 
--- the oldest first
-abbrev pub first_in_waiting : {M : Type 0} → FirstIn M → List M
-first_in_waiting l = waiting_in l.queue
+  abbrev pub first_in_waiting : Row M 0 → List M
+  first_in_waiting l = row_waiting l
 
-pub first_in_room : {M : Type 0} (l : FirstIn M) → length (first_in_waiting l) ≤ first_in_limit l
-first_in_room l = room_in l.queue
+  pub first_in_room : (l : Row M 0) → length (first_in_waiting l) ≤ first_in_limit l
+  first_in_room l = row_room l

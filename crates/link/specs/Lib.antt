@@ -3,6 +3,7 @@ pub mod HeadSets
 pub mod Links
 pub mod Orders
 pub mod QueueModel
+pub mod RowModel
 pub mod FirstInModel
 pub mod LastInModel
 pub mod Posting

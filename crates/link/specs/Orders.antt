@@ -1,6 +1,6 @@
 -- What links that do keep an order promise beyond the meaning of a link. What waits is listed here from the oldest to the newest.
 -- Assumes nothing.
-use Rattle.std.specs.Prelude.{◌≡◌, ℕ, List, [], ◌∷◌, ◌++◌, Ok, Err, Result}
+use Rattle.std.specs.Prelude.{◌≡◌, ℕ, Bool, true, false, List, [], ◌∷◌, ◌++◌, Ok, Err, Result}
 use Rattle.job.specs.declared.refusal.Refusal.{Refusal}
 use Rattle.problem.specs.Bags.{Same}
 
@@ -18,6 +18,11 @@ module _ {M U : Type 0} where
   abbrev pub NewestTaken : List M → Result U Refusal → List M → M → Type 0
   NewestTaken waiting (Ok u) waiting' m = waiting ≡ waiting' ++ m ∷ []
   NewestTaken waiting (Err e) waiting' m = waiting' ≡ waiting
+
+  -- the one or the other
+  abbrev pub EndTaken : Bool → List M → Result U Refusal → List M → M → Type 0
+  EndTaken false waiting r waiting' m = OldestTaken waiting r waiting' m
+  EndTaken true waiting r waiting' m = NewestTaken waiting r waiting' m
 
 -- what a message fewer comes to: in order, and as a bag
 module _ {M : Type 0} (m : M) (limit : ℕ) (waiting : List M) (limit' : ℕ) (waiting' : List M) where

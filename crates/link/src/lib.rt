@@ -1,7 +1,6 @@
 // Messages, links that carry them in an order of their own, and pickers.
 #![tactic(auto)]
 
-pub mod blank;
 pub mod first_in;
 pub mod heads;
 pub mod last_in;
@@ -9,5 +8,6 @@ pub mod link;
 pub mod message;
 pub mod picker;
 mod queue;
+pub mod row;
 pub mod sending;
 pub mod theorems;

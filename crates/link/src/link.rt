@@ -19,8 +19,8 @@ pub trait Link<M: Copy> {
     fn post(&mut self, message: M) -> Result<(), Refusal>
         ensures { Posted message (limit self.old) (bag self.old) result (limit self.new) (bag self.new) };
 
-    // Removes one waiting message, any one, and puts it into the place, which a caller lends for all messages, since they are large;
-    // refused with 11 exactly where none waits.
+    // Removes one waiting message, any one, and puts it into the place, which keeps what it held where none waits; refused with 11
+    // exactly then.
     fn take(&mut self, place: &mut M) -> Result<(), Refusal>
         ensures { Taken (limit self.old) (bag self.old) place.old result (limit self.new) (bag self.new) place.new };
 

@@ -1,8 +1,9 @@
 // What the heads tell each other.
 ghost use Rattle.std.specs.Prelude.{◌≡◌, Some};
-ghost use Rattle.link.specs.Messages.{is_notice as counts_as_notice, kind_word, addressed};
+ghost use Rattle.link.specs.Messages.{is_notice as counts_as_notice, kind_word, addressed, blank as blank_message};
 
 use job::plan::Plan;
+use scale::scale::Scale;
 use std::fmt;
 
 #[derive(Clone, Copy, Debug, PartialEq, Eq)]
@@ -63,5 +64,21 @@ impl<S: Copy> Message<S> {
         ensures { result ≡ addressed self.now head }
     {
         Message { to: head, ..*self }
+    }
+}
+
+impl<S: Scale> Message<S> {
+    // What a place for messages has before a message was put into it: a message that tells nothing.
+    pub fn blank() -> Message<S>
+        ensures { result ≡ blank_message S.Scale.scale }
+    {
+        Message {
+            kind: Kind::Request,
+            to: 0,
+            from: 0,
+            search: 0,
+            plan: Plan::empty(),
+            cost: S::nothing(),
+        }
     }
 }

@@ -1,5 +1,5 @@
 // Where costs lie: 64 places for each pair of heads, in the order (1,2), (1,3) to (7,8), and there by setups.
-ghost use Rattle.std.specs.Prelude.{◌≡◌, ◌<◌, ◌≤◌};
+ghost use Rattle.std.specs.Prelude.{◌≡◌, ◌<◌, ◌≤◌, length, replicate};
 ghost use Rattle.problem.specs.Costs.{pair as pair_number, pair_of, place as place_number, place_of};
 
 // how many places a table of costs has: 28 pairs of 8 heads, 8 setups by 8
@@ -12,6 +12,15 @@ fn pair_number(a: u8, b: u8) -> usize
 {
     let before = (a as usize - 1) * (16 - a as usize) / 2;
     before + (b as usize - a as usize - 1)
+}
+
+// Puts a value into each of some places. Not by the slice's own `fill`, which clones: no law of a scale says what a clone of a cost is.
+pub fn fill<T: Copy>(places: &mut [T], value: T)
+    ensures { places.new ≡ replicate (length places.old) value }
+{
+    for place in places.iter_mut() {
+        *place = value;
+    }
 }
 
 // The place of a cost, where the pair and the setups are known to be in range.

@@ -25,7 +25,7 @@ pub struct Prices<'a, S> {
     ghost room: { 1792 ≤ length costs.now },
 }
 
-// The lesser of two costs.
+// The lesser of two costs, in the order of the scale: the trait promises that one, and no order of the language.
 fn lesser<S: Scale>(x: S, y: S) -> S
     ensures { result ≡ lesser_of S.Scale.scale x y }
 {
@@ -51,7 +51,7 @@ impl<'a, S: Scale> Prices<'a, S> {
         requires { Comparable plan.now h i from last }
         ensures { result ≡ against_those S.Scale.scale self.now.costs.now (range_with_len from (last + 1 - from)) h i plan.now }
     {
-        // a loop, since `filter_map` with a closure inside its closure, and `fold`, is no plainer
+        // a loop: in a chain of `filter_map` and `fold` the closure within the closure would have to ask again what `between` asks
         let mut sum = S::nothing();
         for g in from..=last {
             if let Some(k) = plan.setup(g) {
@@ -87,6 +87,7 @@ impl<'a, S: Scale> Prices<'a, S> {
         requires { is_of_job self.now.job.now plan.now ≡ true }
         ensures { result ≡ plan_cost S.Scale.scale self.now.costs.now self.now.job.now plan.now }
     {
+        // a loop for the same reason
         let mut sum = S::nothing();
         let last = self.job.heads();
         for a in 1..=last {

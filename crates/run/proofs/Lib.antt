@@ -1,3 +1,4 @@
+pub mod Closing
 pub mod Bits
 pub mod Sets
 pub mod Foci
@@ -9,7 +10,6 @@ pub mod Deliveries
 pub mod Beginnings
 pub mod Endings
 pub mod Theorem
-pub mod Packing
 pub mod Promises
 pub mod Excluded
 pub mod Solving

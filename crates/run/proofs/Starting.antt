@@ -1,5 +1,5 @@
 -- What a granted start leaves, from what its parts do. Assumes nothing.
-use Rattle.std.proofs.Common.{◌≡◌, ℕ, ◌+◌, ◌-◌, ◌<◌, ◌≤◌, List, [], ◌∷◌, ◌++◌, length, get_or, take, drop, set, replicate, sym, refl, ap, ◌∙◌, subst, ap₂, inl, inr, arith}
+use Rattle.std.proofs.Common.{◌≡◌, ℕ, ◌+◌, ◌-◌, ◌<◌, ◌≤◌, List, [], ◌∷◌, ◌++◌, length, get_or, drop, set, replicate, sym, refl, ap, ◌∙◌, subst, ap₂, inl, inr, arith}
 use Rattle.std.proofs.lemmas.List.{get_or_append_left, get_or-append_right, get_or-drop, get_or-replicate, drop-drop, drop-append-le, drop_all, length-append, length-drop, length-replicate}
 use Rattle.std.proofs.lemmas.Bool.{cases_lt}
 use Rattle.scale.specs.Operations.{Operations}
@@ -12,7 +12,7 @@ use Rattle.head.specs.Views.{rests, view}
 use Rattle.head.specs.Lent.{Lent, Enough, lent, blank}
 use Rattle.head.proofs.EachHead.{sent_unlost}
 use Rattle.run.specs.Starting.{begun, Begins}
-use Rattle.run.specs.Beginning.{ReadyToBegin, HasBegun}
+use Rattle.run.specs.Beginning.{HasBegun}
 use Rattle.run.proofs.Filling.{filled}
 use Rattle.run.proofs.Beginning.{views_few}
 use Rattle.run.proofs.Losing.{none_lost}
@@ -23,10 +23,6 @@ drop_past n xs ys h =
     ap (λ (k : ℕ). drop k (xs ++ ys)) e
     ∙ sym (drop-drop (n - length xs) (length xs) (xs ++ ys))
     ∙ ap (drop (n - length xs)) (drop-append-le (length xs) xs ys (omega arith) ∙ ap (λ (zs : List _). zs ++ ys) (drop_all (length xs) xs (omega arith)))
-
--- the row of head 1 rests
-pub ready_row : {S : Type 0} (s : Operations S) (recs xs : List (Record S)) → recs ≡ filled (blank s) 64 xs → ReadyToBegin s (take 8 recs)
-ready_row s recs xs e = subst (λ (rs : List (Record _)). ReadyToBegin s (take 8 rs)) (sym e) (record { long = refl; at_rest = λ k lt. ap view (get_or-replicate 8 k (blank s) (blank s) lt) })
 
 module _ {S : Type 0} (s : Operations S) (l : Lent S) (recs row : List (Record S)) (bests : List (Best S)) (first b : Best S) (out limit' : ℕ) (bag' : List (Message S))
     (enough : Enough l) (wide : margin ≤ l.limit) (none : l.bag ≡ [])

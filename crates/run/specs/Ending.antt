@@ -8,6 +8,7 @@ use Rattle.run.specs.declared.run.Found.{Found}
 use Rattle.run.specs.declared.run.Ended.{Ended}
 use Rattle.job.specs.declared.declined.Declined.{Declined}
 use Rattle.job.specs.Refusals.{number}
+use Rattle.job.specs.declared.job.Job.{Job}
 use Rattle.job.specs.Plans.{is_complete}
 use Rattle.head.specs.Lent.{Enough, Lacks, best_of}
 use Rattle.run.specs.Worlds.{World}
@@ -45,3 +46,8 @@ module _ {S : Type 0} (s : Operations S) where
     too_little : {f : Declined Run} → number f.refusal ≡ 7 → Lacks w.lent → f.back ≡ w.run → Ends w (Err f)
     still_out : {f : Declined Run} → number f.refusal ≡ 14 → Enough w.lent → (0 < w.run.out) ⊎ (0 < length w.lent.bag) → f.back ≡ w.run → Ends w (Err f)
     granted : {e : Ended S} → Enough w.lent → w.run.out ≡ 0 → w.lent.bag ≡ [] → Closes w e → Ends w (Ok e)
+
+  -- The same where the memory suffices, with head 1's best at hand.
+  pub data EndsWith (j : Job) (best : Best S) (run : Run) (bag : List (Message S)) : Result (Ended S) (Declined Run) → Type 0 where
+    still_out : {f : Declined Run} → number f.refusal ≡ 14 → (0 < run.out) ⊎ (0 < length bag) → f.back ≡ run → EndsWith j best run bag (Err f)
+    granted : {e : Ended S} → run.out ≡ 0 → bag ≡ [] → e.heads ≡ j.heads → e.count ≡ run.count → Tells best (is_complete j best.plan) e.outcome → EndsWith j best run bag (Ok e)

@@ -1,5 +1,6 @@
-// A run, and what it comes to.
-// A run under way: search v is out where bit v of `out` is set; `count` messages were taken. It is neither copied nor let go, so
+// Runs, and what they come to.
+
+// A run under way: search v is out where bit v of `out` is set, for a run is a state of plain numbers; `count` messages were taken. It is neither copied nor let go, so
 // that no plan is read from it: only `end` leads on.
 pub struct Run {
     out: u8,
@@ -32,7 +33,6 @@ pub struct Ended<S> {
 pub mod deliver;
 pub mod end;
 pub mod look;
-pub mod memory;
 pub mod packing;
 pub mod reading;
 pub mod searches_out;

@@ -7,16 +7,17 @@ ghost use Rattle.sheet.specs.Frames.{said, kind as kind_of, is_end, kind_of_byte
 use crate::hex::byte;
 use crate::line::are_digits;
 
-// The first byte of a frame.
+// The first byte of a frame: 01, 02, 03 and 04.
 #[derive(Clone, Copy, Debug, PartialEq, Eq)]
 pub enum Kind {
-    Opening = 1,
-    Head = 2,
-    Table = 3,
-    End = 4,
+    Opening,
+    Head,
+    Table,
+    End,
 }
 
 impl Kind {
+    // An option and no `TryFrom`, since a byte that names no kind is no error here: its frame is unknown.
     fn of_byte(byte: u8) -> Option<Kind>
         ensures { result ≡ kind_of_byte byte }
     {

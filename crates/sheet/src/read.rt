@@ -10,7 +10,7 @@ use crate::breach::{Breach, SheetRefusal};
 use crate::line::Lines;
 use crate::progress::Progress;
 use job::job::Job;
-use problem::place::{PLACES, pair};
+use problem::place::{PLACES, fill, pair};
 use scale::scale::Scale;
 
 // the most bytes of a sheet
@@ -28,6 +28,7 @@ impl Contents {
     pub fn has_table(&self, a: u8, b: u8) -> bool
         ensures { result ≡ has_table_for self.now a b }
     {
+        // a match, since in `is_some_and` the bound of the place is not found at the closure
         match pair(a, b) {
             Some(p) => self.tables[p],
             None => false,
@@ -68,14 +69,6 @@ fn lay_out<S: Scale>(sheet: &[u8], progress: &Progress, costs: &mut [S])
     }
 }
 
-fn clear<S: Scale>(costs: &mut [S])
-    ensures { costs.new ≡ replicate (length costs.old) S.Scale.scale.nothing }
-{
-    for cost in costs.iter_mut() {
-        *cost = S::nothing();
-    }
-}
-
 // Reads a sheet and lays its costs out, each in its place and nothing where no table has an entry.
 fn read_exactly<S: Scale>(sheet: &[u8], costs: &mut [S]) -> Result<Contents, SheetRefusal>
     ensures { Reads S.Scale.scale S.Scale.coding sheet.now costs.old result costs.new }
@@ -89,7 +82,7 @@ fn read_exactly<S: Scale>(sheet: &[u8], costs: &mut [S]) -> Result<Contents, She
     // a first pass finds every refusal, so that a refused sheet leaves all costs as they were
     let progress = judged::<S>(sheet)?;
     let places = &mut costs[..PLACES];
-    clear(places);
+    fill(places, S::nothing());
     lay_out(sheet, &progress, places);
     Ok(progress.told())
 }

@@ -10,6 +10,7 @@ use std::alloc::Global;
 
 // Reads with the scale that the sheet names.
 pub(crate) fn answered(heap: Global, sheet: &[u8]) -> anyhow::Result<String> {
+    // a match, since no closure is generic in a type
     match scale_named(sheet) {
         ScaleName::Minutes => answered_in::<Minutes>(heap, sheet),
         ScaleName::Clashes => answered_in::<Clashes>(heap, sheet),

@@ -23,14 +23,11 @@ impl fmt::Display for Listing<'_> {
             let setups = Counted(job.setups(head), "setup");
             writeln!(f, "  head {head}: {setups}")?;
         }
-        let costly = Pairs {
+        let pairs = |have_table| Pairs {
             contents: self.contents,
-            have_table: true,
+            have_table,
         };
-        let free = Pairs {
-            contents: self.contents,
-            have_table: false,
-        };
+        let (costly, free) = (pairs(true), pairs(false));
         let plans = job.plans();
         writeln!(f, "Pairs with a table of costs: {costly}.")?;
         writeln!(f, "Pairs that cost nothing: {free}.")?;

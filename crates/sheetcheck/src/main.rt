@@ -42,6 +42,7 @@ fn run(rt: &HostRuntime) -> Result<ExitCode, Failure> {
     rt.stdin().take(BYTES_READ).read_to_end(&mut bytes)?;
     let arguments: Vec<String> = env::args(rt)?.skip(1).collect(heap)?;
     let (sheet, words) = (bytes.as_slice(), arguments.as_slice());
+    // a match, since no closure is generic in a type
     match scale_named(sheet) {
         ScaleName::Minutes => answer::<Minutes>(rt, ScaleName::Minutes, sheet, words),
         ScaleName::Clashes => answer::<Clashes>(rt, ScaleName::Clashes, sheet, words),

@@ -21,6 +21,7 @@ fn main(rt: HostRuntime) -> io::Result<()> {
     rt.stdin().take(BYTES_READ).read_to_end(&mut bytes)?;
     let sheet = bytes.as_slice();
     let mut out = [0; 64];
+    // a match, since no closure is generic in a type
     let length = match scale_named(sheet) {
         ScaleName::Minutes => plan::<Minutes>(heap, sheet, &mut out)?,
         ScaleName::Clashes => plan::<Clashes>(heap, sheet, &mut out)?,

@@ -87,11 +87,10 @@ pub(crate) fn plan<S: Scale + Clone>(
         &mut memory,
         out,
     );
-    match answered {
-        Ok(length) => Ok(length),
-        Err(Refused { refusal, line }) => {
-            out[..9].copy_from_slice(&refusal_line(refusal, line));
-            Ok(9)
-        }
-    }
+    let line = match answered {
+        Ok(length) => return Ok(length),
+        Err(Refused { refusal, line }) => refusal_line(refusal, line),
+    };
+    out[..line.len()].copy_from_slice(&line);
+    Ok(line.len())
 }

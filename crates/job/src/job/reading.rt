@@ -59,11 +59,10 @@ impl Job {
     pub fn plans(&self) -> u32
         ensures { result ≡ plans_of self.now }
     {
-        let mut product = 1;
-        for setups in &self.setups[..self.heads as usize] {
-            product *= u32::from(*setups);
-        }
-        product
+        self.setups[..self.heads as usize]
+            .iter()
+            .map(|setups| u32::from(*setups))
+            .product()
     }
 
     // Whether the plan names all heads of the job.

@@ -22,7 +22,8 @@ use link::picker::Picker;
 use problem::price::Problem;
 use scale::scale::Scale;
 
-// Whether a refusal is that of a stray message; the promises go by its number.
+// Whether a refusal is that of a stray message. A function of its own: written in its place, what is asked there of the number 13 was
+// not found.
 fn is_stray(refusal: Refusal) -> bool
     ensures { result ≡ (number refusal == 13) }
 {

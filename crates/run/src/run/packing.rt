@@ -4,6 +4,7 @@ ghost use Rattle.run.specs.Ending.{unpacked};
 
 use job::plan::Plan;
 
+// Eight names and no array: what the bytes of the number are is found of the names.
 fn bytes_joined(a: u8, b: u8, c: u8, d: u8, e: u8, f: u8, g: u8, h: u8) -> u64
     ensures { unpacked result ≡ a ∷ b ∷ c ∷ d ∷ e ∷ f ∷ g ∷ h ∷ [] }
 {

@@ -6,7 +6,6 @@ ghost use Rattle.run.specs.Beginning.{sent_out, ReadyToBegin, HasBegun};
 ghost use Rattle.run.specs.Promises.{StartPromise};
 
 use super::Run;
-use super::memory::fill;
 use super::searches_out::{all_out, come_home};
 use super::stopping::stop_others;
 use head::best::Best;
@@ -19,6 +18,7 @@ use job::refusal::Refusal;
 use link::link::Link;
 use link::message::Message;
 use link::sending::MARGIN;
+use problem::place::fill;
 use problem::price::{Prices, Problem};
 use scale::scale::Scale;
 
@@ -45,6 +45,7 @@ fn begin<S: Scale, L: Link<Message<S>>>(
 {
     let count = prices.job.setups(1);
     let mut out = all_out(count);
+    // by number, since the head acts in the search of that number and keeps its record in that place of its row
     for v in 0..count {
         let seat = Seat { head: 1, search: v };
         let turn = search_on(prices, link, seat, &sent_out(v), best);
@@ -82,6 +83,7 @@ impl Run {
         let prices = problem.prices()?;
         fill(&mut memory.bests[0..BESTS], Best::none());
         fill(&mut memory.records[0..RECORDS], Record::resting());
+        // a best of its own, since the row is lent out of the memory while the head acts
         let mut best = Best::none();
         let out = begin(&prices, link, &mut memory.records[0..ROW], &mut best);
         memory.bests[0] = best;

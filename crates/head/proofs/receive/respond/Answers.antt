@@ -9,9 +9,6 @@ offset_bounds-row-v g c =
     let h : c.args.message.now.search < length c.args.row.now = omega (arith, search_small c.args.prices.now.job.now c.args.message.now c.requires.addressed) in
     search rules
 
-pub bounds-row-v : goal.bounds-row-v
-bounds-row-v g c = omega (arith, search_small c.args.prices.now.job.now c.args.message.now c.requires.addressed)
-
 pub returns-then-not-is_sound : goal.returns-then-not-is_sound
 returns-then-not-is_sound g c =
     let out = c.copied-known.ensures ∙ get_or_default c.args.row.now c.args.message.now.search _ (blank g.S.Scale.scale) (omega (arith, search_small c.args.prices.now.job.now c.args.message.now c.requires.addressed)) in
@@ -21,9 +18,6 @@ pub returns-then-not-is_due : goal.returns-then-not-is_due
 returns-then-not-is_due g c =
     let out = c.copied-known.ensures ∙ get_or_default c.args.row.now c.args.message.now.search _ (blank g.S.Scale.scale) (omega (arith, search_small c.args.prices.now.job.now c.args.message.now c.requires.addressed)) in
     stray_undue g.S.Scale.scale c.args.prices.now.job.now c.args.prices.now.costs.now c.args.out c.args.row.now c.args.best.now c.args.message.now _ _ c.copied-known.result out c.requires.addressed (sym c.is_sound.ensures ∙ c.if-not-is_sound.false) (sym c.is_due.ensures ∙ c.if-not-is_due.true)
-
-pub write_back-requires : goal.write_back-requires
-write_back-requires g c = omega (arith, search_small c.args.prices.now.job.now c.args.message.now c.requires.addressed)
 
 pub returns-in-Goes : goal.returns-in-Goes
 returns-in-Goes g c =

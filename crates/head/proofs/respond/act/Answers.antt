@@ -1,4 +1,4 @@
-use Rattle.std.proofs.Common.{◌≡◌, ℕ, refl, ap, ◌∙◌, arith}
+use Rattle.std.proofs.Common.{◌≡◌, ℕ, refl, ap, ◌∙◌, arith, rules}
 use Rattle.link.specs.declared.message.Kind.TheVariants.{Report, Plan as PlanMessage, Return, Notice, Stop}
 use Rattle.head.specs.declared.best.Best.{Best}
 use Rattle.head.specs.declared.record.State.{State}
@@ -7,6 +7,7 @@ use Rattle.head.specs.Bests.{adopted}
 use Rattle.head.specs.Strays.{expects}
 use Rattle.head.specs.Readiness.{owing}
 use Rattle.head.proofs.Replying.{notices_so, stops_so, chooses_going, chooses_none, expects_request, expects_notice, expects_stop}
+use Rattle.head.proofs.respond.act.Goals.{in-Report+in-Resting-1, in-Report+in-Below-1, in-Plan+in-Gathering-1, in-Plan+in-Below-1, in-Return+in-Resting-1, in-Return+in-Gathering-1}
 use Rattle.head.proofs.respond.act.Goals as goal
 
 pub returns-in_default-Request : goal.returns-in_default-Request
@@ -39,19 +40,13 @@ returns-in_default-Stop g c =
     (stops_so g.S.Scale.scale c.args.prices.now.job.now c.args.prices.now.costs.now c.args.known.now c.args.message.now c.args.best.now c.carried_by-in_default-Stop.result c.quiet-in_default-Stop.result _ _ c.carried_by-in_default-Stop.ensures c.quiet-in_default-Stop.ensures)
 
 pub returns-in-Resting-Report : goal.returns-in-Resting-Report
-returns-in-Resting-Report g c = chooses_none g.S.Scale.scale c.args.prices.now.job.now c.args.prices.now.costs.now c.args.known.now c.args.message.now c.args.best.now _ _ _ _ _ Resting Report c.in-Resting-Report.is-0 c.in-Resting-Report.is-1 refl refl refl refl
-
-pub returns-in-Resting-Return : goal.returns-in-Resting-Return
-returns-in-Resting-Return g c = chooses_none g.S.Scale.scale c.args.prices.now.job.now c.args.prices.now.costs.now c.args.known.now c.args.message.now c.args.best.now _ _ _ _ _ Resting Return c.in-Resting-Return.is-0 c.in-Resting-Return.is-1 refl refl refl refl
-
-pub returns-in-Gathering-Plan : goal.returns-in-Gathering-Plan
-returns-in-Gathering-Plan g c = chooses_none g.S.Scale.scale c.args.prices.now.job.now c.args.prices.now.costs.now c.args.known.now c.args.message.now c.args.best.now _ _ _ _ _ Gathering PlanMessage c.in-Gathering-Plan.is-0 c.in-Gathering-Plan.is-1 refl refl refl refl
-
-pub returns-in-Gathering-Return : goal.returns-in-Gathering-Return
-returns-in-Gathering-Return g c = chooses_none g.S.Scale.scale c.args.prices.now.job.now c.args.prices.now.costs.now c.args.known.now c.args.message.now c.args.best.now _ _ _ _ _ Gathering Return c.in-Gathering-Return.is-0 c.in-Gathering-Return.is-1 refl refl refl refl
-
-pub returns-in-Below-Plan : goal.returns-in-Below-Plan
-returns-in-Below-Plan g c = chooses_none g.S.Scale.scale c.args.prices.now.job.now c.args.prices.now.costs.now c.args.known.now c.args.message.now c.args.best.now _ _ _ _ _ Below PlanMessage c.in-Below-Plan.is-0 c.in-Below-Plan.is-1 refl refl refl refl
-
-pub returns-in-Below-Report : goal.returns-in-Below-Report
-returns-in-Below-Report g c = chooses_none g.S.Scale.scale c.args.prices.now.job.now c.args.prices.now.costs.now c.args.known.now c.args.message.now c.args.best.now _ _ _ _ _ Below Report c.in-Below-Report.is-0 c.in-Below-Report.is-1 refl refl refl refl
+returns-in-Resting-Report g c =
+    let none = chooses_none g.S.Scale.scale c.args.prices.now.job.now c.args.prices.now.costs.now c.args.known.now c.args.message.now c.args.best.now _ _ _ _ _ in
+    elim c.in-Resting-Report-1.branch [
+      | in-Report+in-Resting-1 w ↦ none Resting Report (search rules) (search rules) refl refl refl refl
+      | in-Report+in-Below-1 w ↦ none Below Report (search rules) (search rules) refl refl refl refl
+      | in-Plan+in-Gathering-1 w ↦ none Gathering PlanMessage (search rules) (search rules) refl refl refl refl
+      | in-Plan+in-Below-1 w ↦ none Below PlanMessage (search rules) (search rules) refl refl refl refl
+      | in-Return+in-Resting-1 w ↦ none Resting Return (search rules) (search rules) refl refl refl refl
+      | in-Return+in-Gathering-1 w ↦ none Gathering Return (search rules) (search rules) refl refl refl refl
+    ]

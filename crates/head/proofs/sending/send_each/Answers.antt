@@ -28,10 +28,6 @@ loop-h-preserved g c =
           simp (lost, go) (sent_below_passed m p limit bag h c.loop-h.lost _ _ c.loop-h.auto.h (sym c.has.ensures ∙ w.if-has.false) c.loop-h.invariant)
     ]
 
-pub returns : goal.returns
-returns g c =
-    sent_below_all c.args.message (has_head c.args.heads) _ _ c.loop-h.h c.args.job.now.heads _ _ _ (omega arith) c.loop-h.invariant
-
 pub returns-after-has : goal.returns-after-has
 returns-after-has g c =
     let m = c.args.message in

@@ -1,4 +1,4 @@
-use Rattle.std.proofs.Common.{◌≡◌, ℕ, Err, ◌++◌, length, drop, replicate, sym, refl, ap, ◌∙◌, arith}
+use Rattle.std.proofs.Common.{◌≡◌, Err, ◌++◌, length, drop, replicate, sym, refl, ap, ap₂, ◌∙◌, arith}
 use Rattle.std.proofs.lemmas.List.{length-take-le, length-replicate}
 use Rattle.std.proofs.lemmas.Result.{err_from_is_err_and}
 use Rattle.sheet.specs.Lines.{lines}
@@ -9,7 +9,7 @@ use Rattle.sheet.proofs.Lines.{read_ends}
 use Rattle.sheet.proofs.LaidOut.{lines_fill}
 use Rattle.sheet.proofs.read.read_exactly.Given as given
 use Rattle.sheet.proofs.read.read_exactly.Goals as goal
-use Rattle.sheet.proofs.read.read_exactly.Goals.{After-clear}
+use Rattle.sheet.proofs.read.read_exactly.Goals.{After-fill}
 
 pub returns-then-costs-lt-PLACES : goal.returns-then-costs-lt-PLACES
 returns-then-costs-lt-PLACES g c = too_little (omega arith) (ap Err c.at_line.ensures) refl
@@ -23,12 +23,12 @@ returns-in_err-progress g c =
     rw (p.1, p.2) (refused _ (omega arith) (omega arith) (sym c.in_err-progress.ensures) refl refl)
 
 -- all places have nothing before the tables are laid out
-cleared : (g : given.Over) (c : After-clear g) → c.clear.new.costs ≡ replicate 1792 g.S.Scale.scale.nothing
-cleared g c = c.clear.ensures ∙ ap (λ (n : ℕ). replicate n g.S.Scale.scale.nothing) (length-take-le 1792 _ (omega arith))
+cleared : (g : given.Over) (c : After-fill g) → c.fill.new.places ≡ replicate 1792 g.S.Scale.scale.nothing
+cleared g c = c.fill.ensures ∙ ap₂ replicate (length-take-le 1792 _ (omega arith)) c.nothing.ensures
 
 pub lay_out-requires : goal.lay_out-requires
 lay_out-requires g c =
-    let long = ap length (cleared g (goal.at.lay_out-requires g c).After-clear) ∙ length-replicate 1792 g.S.Scale.scale.nothing in
+    let long = ap length (cleared g (goal.at.lay_out-requires g c).After-fill) ∙ length-replicate 1792 g.S.Scale.scale.nothing in
     omega arith
 
 pub told-requires : goal.told-requires
@@ -39,7 +39,7 @@ returns g c =
     let coding = g.S.Scale.coding in
     let sheet = c.args.sheet.now in
     let p = c.in_ok-progress.progress in
-    let all = cleared g (goal.at.returns g c).After-clear in
+    let all = cleared g (goal.at.returns g c).After-fill in
     let read = sym c.in_ok-progress.ensures in
     granted p c.told.result (omega arith) (omega arith) read c.told.ensures refl
     (ap (λ xs. xs ++ drop 1792 c.args.costs.now) (c.lay_out.ensures ∙ ap (lines_filled coding p (lines sheet)) all ∙ lines_fill coding p 1 start (lines sheet) _ read))

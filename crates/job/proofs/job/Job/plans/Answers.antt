@@ -1,29 +1,25 @@
-use Rattle.std.proofs.Common.{◌≡◌, ℕ, ◌+◌, ◌*◌, ◌^◌, ◌≤◌, get_or, take, sym, ap, ◌∙◌, mul_assoc, arith}
-use Rattle.std.proofs.lemmas.List.{get_or-take}
-use Rattle.job.proofs.Readings.{product_step, product_end, power_step, power_small}
+use Rattle.std.proofs.Common.{take, sym, ap, ◌*◌, ◌∙◌, arith, rules, length-take, ℕ, ◌≤◌, subst}
+use Rattle.std.specs.List.{fold}
+use Rattle.std.proofs.lemmas.List.{get_or-take, map-id}
+use Rattle.std.proofs.lemmas.Iterator.{YieldsList-from_slice, YieldsList-from_map}
+use Rattle.std.proofs.lemmas.Iterator.Adapters.{total_from_yields_List}
+use Rattle.job.specs.Plans.{setups}
+use Rattle.job.proofs.Readings.{product_along, product_fits, setups_at}
 use Rattle.job.proofs.job.Job.plans.Goals as goal
 
--- the factor is the number of setups of the next head
-factor : (c : goal.After-from-product) → c.from-product.result ≡ get_or c.args.self.now.setups c.loop-setups.setups-index 0
-factor c =
+pub product-requires-clause-fits : goal.product-requires-clause-fits
+product-requires-clause-fits c =
     let j = c.args.self.now in
-    let k = c.loop-setups.setups-index in
-    let front : c.from-product.result ≡ get_or (take j.heads j.setups) k 0 = cc in
-    front ∙ get_or-take j.heads j.setups k 0 (omega arith)
-
-grows : (c : goal.After-from-product) → c.loop-setups.product * c.from-product.result ≤ 8 ^ (c.loop-setups.setups-index + 1)
-grows c = power_step c.loop-setups.product _ c.loop-setups.setups-index c.loop-setups.invariant.0 (omega (arith, factor c, c.args.self.now.few c.loop-setups.setups-index))
-
-pub overflow_mul-product : goal.overflow_mul-product
-overflow_mul-product c = let small = power_small _ (c.loop-setups.setups-index + 1) (grows c) (omega (arith, c.args.self.now.eight)) in omega arith
-
-pub loop-setups-preserved : goal.loop-setups-preserved
-loop-setups-preserved c =
-    let j = c.args.self.now in
-    let k = c.loop-setups.setups-index in (
-      grows c,
-      mul_assoc c.loop-setups.product c.from-product.result _ ∙ ap (λ (x : ℕ). c.loop-setups.product * x) (rw (factor c) (sym (product_step j j.heads k (omega arith)))) ∙ c.loop-setups.invariant.1,
-    )
+    let front = take j.heads j.setups in
+    product_fits front c.map.result (YieldsList-from_map _ (λ x. x) (YieldsList-from_slice front cc) c.map.ensures.closure (λ x r q k. search rules))
+    (omega (arith, length-take j.heads j.setups, j.eight))
+    (λ i lt. subst (λ (d : ℕ). d ≤ 8) (sym (get_or-take j.heads j.setups i 0 (omega (arith, lt, length-take j.heads j.setups)))) (j.few i))
 
 pub returns : goal.returns
-returns c = omega (arith, c.loop-setups.invariant.1, ap (λ (x : ℕ). c.loop-setups.product * x) (product_end c.args.self.now c.args.self.now.heads c.loop-setups.setups-index (omega arith)))
+returns c =
+    let j = c.args.self.now in
+    let front = take j.heads j.setups in
+    total_from_yields_List (λ a x. a * x) 1 c.product.result c.product.ensures.ran (YieldsList-from_map _ (λ x. x) (YieldsList-from_slice front cc) c.map.ensures.closure (λ x r q k. search rules))
+    ∙ ap (fold (λ a x. a * x) 1) (map-id front)
+    ∙ product_along (setups j) front 1 j.heads 1 (omega (arith, length-take j.heads j.setups, j.eight)) (λ k lt. setups_at j k ∙ sym (get_or-take j.heads j.setups k 0 lt))
+    ∙ omega arith

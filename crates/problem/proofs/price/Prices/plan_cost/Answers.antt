@@ -33,10 +33,6 @@ loop-a-preserved g c =
           simp w.sum-is (pairs_skip laws c.args.self.now.costs.now c.args.plan.now c.loop-a.a end c.loop-a.sum _ c.loop-a.invariant lt (sym c.setup.ensures ∙ w.in_default.is))
     ]
 
-pub returns : goal.returns
-returns g c =
-    pairs_done g.met.S.Scale.lawful c.args.self.now.costs.now c.args.plan.now c.loop-a.a (c.heads-last.result + 1) c.loop-a.sum _ c.loop-a.invariant (omega arith)
-
 pub returns-after-setup : goal.returns-after-setup
 returns-after-setup g c =
     let s = g.S.Scale.scale in

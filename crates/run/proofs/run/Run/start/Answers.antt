@@ -7,7 +7,7 @@ use Rattle.run.specs.Starting.{Starts}
 use Rattle.head.proofs.Taking.{enough_so, lacks_so}
 use Rattle.run.proofs.Promises.{start_promise}
 use Rattle.run.proofs.Filling.{filled_part}
-use Rattle.run.proofs.Starting.{ready_row, begins}
+use Rattle.run.proofs.Starting.{begins}
 use Rattle.run.proofs.run.Run.start.Goals as goal
 
 pub returns-then-not-is_enough-clause-starts : goal.returns-then-not-is_enough-clause-starts
@@ -29,13 +29,6 @@ returns-then-waiting-gt0-clause-starts g c =
     let wide : margin ≤ l.limit = subst (λ (n : ℕ). margin ≤ n) c.limit.ensures c.if-limit-lt-MARGIN.false in
     let some : 0 < length l.bag = subst (λ (n : ℕ). 0 < n) c.waiting.ensures c.if-waiting-gt0.true in
     start_promise g.S.Scale.scale g.met.S.Scale.lawful l _ l (Starts.message_waits refl e wide some refl)
-
-pub begin-out-requires : goal.begin-out-requires
-begin-out-requires g c =
-    let s = g.S.Scale.scale in
-    let recs = c.args.memory.now.records.now in
-    let e = enough_so c.args.problem.now.job.now c.args.problem.now.costs.now recs c.args.memory.now.bests.now (g.L.Link.limit c.args.link.now) (g.L.Link.bag c.args.link.now) (sym c.is_enough.ensures ∙ c.if-not-is_enough.false) in
-    ready_row s (c.fill-2.new.places ++ drop 64 recs) recs (filled_part (blank s) c.resting.result 64 recs c.fill-2.new.places e.records c.fill-2.ensures c.resting.ensures)
 
 pub returns-clause-starts : goal.returns-clause-starts
 returns-clause-starts g c =
