@@ -15,7 +15,7 @@ fn digit(value: u8) -> u8
     }
 }
 
-// Lines that are written to lent memory, one after another: `end` is where they end so far.
+// Lines that are written one after another to memory that is lent, since no library here has a heap: `end` is where they end so far.
 #[derive(Drop)]
 pub(crate) struct Lines<'a> {
     out: &'a mut [u8],

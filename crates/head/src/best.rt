@@ -5,7 +5,7 @@ ghost use Rattle.head.specs.Bests.{at_first, hopeless, adopted as adopted_of};
 use job::plan::Plan;
 use scale::scale::Scale;
 
-// A complete plan with its cost, or the empty plan with never.
+// A complete plan with its cost, or the empty plan with never: no option, since a return and a stop carry it so.
 #[derive(Clone, Copy)]
 pub struct Best<S> {
     pub cost: S,

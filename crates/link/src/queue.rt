@@ -3,7 +3,7 @@ ghost use Rattle.std.specs.Prelude.{◌≡◌, ◌<◌, ◌≤◌, [], length, M
 
 use job::refusal::Refusal;
 
-// `count` messages wait, from the place `first` on and then from the start.
+// `count` messages wait, from the place `first` on and then from the start. The places are lent, since no library here has a heap.
 #[derive(Drop)]
 pub(crate) struct Queue<'a, M> {
     places: &'a mut [M],

@@ -1,7 +1,8 @@
 // Runs, and what they come to.
 
-// A run under way: search v is out where bit v of `out` is set, for a run is a state of plain numbers; `count` messages were taken. It is neither copied nor let go, so
-// that no plan is read from it: only `end` leads on.
+// A run under way: search v is out where bit v of `out` is set; `count` messages were taken. A run is plain numbers, as the calls of
+// heads take them. It is neither copied nor let go, so that no plan is read from it: only `end` leads on. Its calls are given problem,
+// link and memory each for itself: a struct around several `&mut` would need a clause for each of their names in every call.
 pub struct Run {
     out: u8,
     count: u64,
@@ -16,6 +17,7 @@ pub struct Seen {
 }
 
 // A cheapest plan, packed in one number with the setup of head h in byte h - 1, the least byte first, and its cost.
+// So it is a plain value of numbers, as a run is, with a byte of FF where the plan has one.
 #[derive(Clone, Copy)]
 pub struct Found<S> {
     pub packed: u64,

@@ -57,7 +57,8 @@ impl Breach {
     }
 }
 
-// A rule with the number of the line that breaks it, from 1; line 0 is the sheet as a whole.
+// A rule with the number of the line that breaks it, from 1; line 0 is the sheet as a whole, as
+// the line of a refusal has it.
 #[derive(Clone, Copy, Debug, PartialEq, Eq)]
 pub struct SheetRefusal {
     pub line: u16,

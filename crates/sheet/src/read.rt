@@ -16,7 +16,8 @@ use scale::scale::Scale;
 // the most bytes of a sheet
 pub const MOST_BYTES: usize = 24_000;
 
-// What a sheet says, but for its costs: the job, and which pairs have a table, by the pair's number.
+// What a sheet says, but for its costs: the job, and which pairs have a table, by the pair's number, in an array since no
+// library here has a heap.
 #[derive(Clone, Copy)]
 pub struct Contents {
     pub job: Job,

@@ -58,6 +58,7 @@ fn answer<S: Scale + Clone + fmt::Display>(
 ) -> Result<ExitCode, Failure> {
     let heap = rt.alloc();
     let mut costs: Vec<S> = vec![in heap; S::nothing(); PLACES]?;
+    // a match, and one below, since what is refused is told here, each on a stream of its own
     let contents = match read(sheet, costs.as_mut_slice()) {
         Ok(contents) => contents,
         Err(refusal) => {

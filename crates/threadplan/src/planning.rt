@@ -87,6 +87,7 @@ pub(crate) fn plan<S: Scale + Clone>(
         &mut memory,
         out,
     );
+    // a match, since an answer is written already and a refusal not yet
     let line = match answered {
         Ok(length) => return Ok(length),
         Err(Refused { refusal, line }) => refusal_line(refusal, line),

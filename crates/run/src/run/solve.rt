@@ -26,7 +26,7 @@ pub fn solve<S: Scale, L: Link<Message<S>>, P: Picker>(
     while link.waiting() > 0 {
         let _ = run.deliver(problem, link, picker, memory);
     }
-    // a match, since a run that comes back is given up by name and not let go
+    // a match: in `map_err` the proof did not close
     match run.end(problem, link, memory) {
         Ok(ended) => Ok(ended),
         Err(Declined { back, refusal }) => {
