@@ -28,7 +28,7 @@ use scale::scale::Scale;
 fn has_heard_all(job: &Job, plan: &Plan, heard: &HeadSet) -> bool
     ensures { result ≡ every (has_head heard.now) (unnamed_heads job.now plan.now) }
 {
-    (1..=job.heads()).all(|h| plan.names(h) || heard.has(h))
+    (1..job.heads() + 1).all(|h| plan.names(h) || heard.has(h))
 }
 
 // A report: its bound is joined to the gathered one. When none is missing, the setup is given up where the best is at most what the

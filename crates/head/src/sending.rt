@@ -18,7 +18,7 @@ use scale::scale::Scale;
 pub(crate) fn unnamed(job: &Job, plan: &Plan) -> HeadSet
     ensures { result ≡ heads_in (unnamed_heads job.now plan.now) }
 {
-    (1..=job.heads())
+    (1..job.heads() + 1)
         .filter(|h| !plan.names(*h))
         .fold(HeadSet::empty(), HeadSet::with)
 }
@@ -27,7 +27,7 @@ pub(crate) fn unnamed(job: &Job, plan: &Plan) -> HeadSet
 pub fn others(job: &Job, head: u8) -> HeadSet
     ensures { result ≡ heads_in (other_heads job.now head) }
 {
-    (1..=job.heads())
+    (1..job.heads() + 1)
         .filter(|h| *h != head)
         .fold(HeadSet::empty(), HeadSet::with)
 }

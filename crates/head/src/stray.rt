@@ -32,7 +32,7 @@ fn has_own_setups(job: &Job, head: u8, untried: &SetupSet) -> bool
 fn has_own_heads(job: &Job, heard: &HeadSet) -> bool
     ensures { result ≡ heard_fit job.now heard.now }
 {
-    (1..=8u8).all(|h| !heard.has(h) || job.setups(h) >= 1)
+    (1..9u8).all(|h| !heard.has(h) || job.setups(h) >= 1)
 }
 
 // Whether the sender is another head of the job; at head 1 it may also be nobody, 0: heads are bytes in records as in messages, and 0 is

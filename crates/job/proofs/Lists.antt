@@ -1,7 +1,7 @@
 -- A test of every member of a list. Assumes nothing.
 use Rattle.std.proofs.Common.{◌≡◌, ℕ, zero, suc, ◌+◌, ◌<◌, Bool, true, false, ◌&&◌, List, [], ◌∷◌, length, get_or, refl, sym, ap, ◌∙◌, ap₂, arith}
 use Rattle.std.specs.Bool.{MatchBool}
-use Rattle.std.specs.List.{AllWithin, HoldsAt, range_with_len}
+use Rattle.std.specs.List.{AllWithin, HoldsAt, range_with_len, list_all}
 use Rattle.std.proofs.lemmas.Bool.{and_from}
 use Rattle.job.specs.Lists.{every}
 
@@ -31,6 +31,12 @@ module _ {X : Type 0} (p : X → Bool) where
   every_from_all (x ∷ xs) true h = sym (every_at_places p (x ∷ xs) x (λ k lt. h k x (omega arith) lt))
   every_from_all (x ∷ xs) false (zero, lt, at) = fails_here x xs (at x)
   every_from_all (x ∷ xs) false (suc k, lt, at) = fails_later x xs (every_from_all xs false (k, omega arith, at))
+
+-- that all of a list pass, in the words of std
+pub every_listed : {X : Type 0} (p : X → Bool) (xs : List X) → list_all p xs ≡ every p xs
+unfolding every
+every_listed p [] = refl
+every_listed p (x ∷ xs) = ap (λ (b : Bool). p x && b) (every_listed p xs)
 
 -- a test of the numbers from a on is one of the n members, place by place
 pub every_by_number : {X : Type 0} (p : X → Bool) (xs : List X) (d : X) (q : ℕ → Bool) (a n : ℕ) → length xs ≡ n → ((k : ℕ) → k < n → q (a + k) ≡ p (get_or xs k d)) → every p xs ≡ every q (range_with_len a n)

@@ -1,19 +1,20 @@
 -- What the code reads of sets of numbers, in the words of the definitions. Assumes nothing.
 use Rattle.std.proofs.Common.{◌≡◌, ℕ, zero, suc, ◌+◌, ◌-◌, ◌<◌, ◌≤◌, min, ltb, Bool, true, false, cond, List, [], ◌∷◌, ◌++◌, length, reverse, get_or, set, Some, None, Option, inl, inr, sym, refl, ap, ◌∙◌, arith}
 use Rattle.std.proofs.lemmas.Bool.{cond-true, cond-false, lt-ltb, le-ltb, ltb-true, cases_lt, cases_Bool}
-use Rattle.std.proofs.lemmas.List.{set_past, length-set, length-reverse, reverse-append}
+use Rattle.std.proofs.lemmas.List.{set_past, length-set, length-reverse, reverse-append, ext_get_or, get_or-replicate, get_or-set_other}
+use Rattle.std.proofs.lemmas.Grind.{get_or-set_at}
 use Rattle.std.proofs.lemmas.Option.{cond_some, none-some}
 use Rattle.std.specs.Bool.{then_some}
 use Rattle.std.proofs.lemmas.List.FromFn.{length-range_with_len}
 use Rattle.std.proofs.lemmas.Iterator.{YieldsList}
 use Rattle.std.proofs.lemmas.Iterator.Consumers.{YieldsList-from_shown}
-use Rattle.std.specs.List.{find, fold, range_with_len}
+use Rattle.std.specs.List.{find, range_with_len}
 use Rattle.std.specs.Iterator.Adapters.{rev_source, rev_steps}
 use Rattle.std.specs.Range.{range_steps_back}
 use Rattle.std.specs.declared.iter.Rev.{Rev}
 use Rattle.std.specs.declared.ops.Range.{Range}
 use Rattle.job.specs.Lists.{those}
-use Rattle.job.specs.Sets.{place_of, among, setting, first_places, none_of, below, with, head_of}
+use Rattle.job.specs.Sets.{place_of, among, setting, first_places, below, head_of}
 
 -- a number below the first has no place, and another has the place that it is past the first, of eight
 pub no_place_below : (f n : ℕ) → n < f → None ≡ place_of f n
@@ -63,51 +64,38 @@ setting_none zero n m b e long = elim (cases_lt n 8) [
 setting_none (suc f) zero m b e long = refl
 setting_none (suc f) (suc n) m b e long = setting_none f n m b e long
 
--- the numbers below another, and one more
-below_none : (f n : ℕ) → n ≤ f → none_of f ≡ below f n
-unfolding first_places
-below_none f n le = let e : 0 ≡ min (n - f) 8 = omega arith in ap (λ (k : ℕ). record { members = first_places k }) e
+capped_test : (n i : ℕ) → i < 8 → ltb i n ≡ ltb i (min n 8)
+capped_test n i lt = elim (cases_lt i n) [
+  | inl less ↦ lt-ltb i n less ∙ sym (lt-ltb i (min n 8) (omega arith))
+  | inr more ↦ le-ltb i n more ∙ sym (le-ltb i (min n 8) (omega arith))
+]
 
+-- what is set at each place of the first so many
 first_length : (k : ℕ) → length (first_places k) ≡ 8
 unfolding first_places
 first_length zero = refl
 first_length (suc k) = length-set (first_places k) k true ∙ first_length k
 
-setting_at : (f n : ℕ) (m : List Bool) (b : Bool) → f ≤ n → length m ≡ 8 → setting f m n b ≡ set m (n - f) b
-setting_at zero n m b le long = let e : n ≡ n - 0 = omega arith in ap (λ (i : ℕ). set m i b) e
-setting_at (suc f) zero m b le long = absurd (omega arith)
-setting_at (suc f) (suc n) m b le long = let e : n - f ≡ suc n - suc f = omega arith in setting_at f n m b (omega arith) long ∙ ap (λ (i : ℕ). set m i b) e
-
-first_more : (k : ℕ) → set (first_places k) k true ≡ first_places (suc k)
+first_at : (k i : ℕ) → k ≤ 8 → i < 8 → get_or (first_places k) i false ≡ ltb i k
 unfolding first_places
-first_more k = refl
-
-below_more : (f n : ℕ) → f ≤ n → with f (below f n) n ≡ below f (n + 1)
-below_more f n le = elim (cases_lt (n - f) 8) [
-  | inl lt ↦
-      let a : min (n - f) 8 ≡ n - f = omega arith in
-      let b : suc (n - f) ≡ min (n + 1 - f) 8 = omega arith in
-      ap (λ (xs : List Bool). record { members = xs })
-      (setting_at f n (first_places (min (n - f) 8)) true le (first_length _) ∙ ap (λ (k : ℕ). set (first_places k) (n - f) true) a ∙ first_more (n - f) ∙ ap first_places b)
-  | inr ge ↦
-      let a : min (n - f) 8 ≡ min (n + 1 - f) 8 = omega arith in
-      ap (λ (xs : List Bool). record { members = xs })
-      (setting_at f n (first_places (min (n - f) 8)) true le (first_length _) ∙ set_past (first_places (min (n - f) 8)) (n - f) true (omega (arith, first_length (min (n - f) 8))) ∙ ap first_places a)
+first_at zero i le lt = get_or-replicate 8 i false false lt ∙ sym (le-ltb i 0 (omega arith))
+first_at (suc k) i le lt = elim (cases_lt i k) [
+  | inl less ↦ get_or-set_other (first_places k) k i true false (λ e. omega arith) ∙ first_at k i (omega arith) lt ∙ lt-ltb i k less ∙ sym (lt-ltb i (suc k) (omega arith))
+  | inr more ↦ elim (cases_lt k i) [
+    | inl past ↦ get_or-set_other (first_places k) k i true false (λ e. omega arith) ∙ first_at k i (omega arith) lt ∙ le-ltb i k more ∙ sym (le-ltb i (suc k) (omega arith))
+    | inr here ↦ get_or-set_at (first_places k) k i true false (omega arith) (omega (arith, first_length k)) ∙ sym (lt-ltb i (suc k) (omega arith))
+  ]
 ]
 
--- number after number put into a set that has those before them
-below_then : (f m n : ℕ) → f ≤ m → fold (with f) (below f m) (range_with_len m n) ≡ below f (m + n)
-below_then f m zero le = let e : m ≡ m + 0 = omega arith in ap (below f) e
-below_then f m (suc n) le =
-    let e : m + 1 + n ≡ m + suc n = omega arith in
-    ap (λ s. fold (with f) s (range_with_len (m + 1) n)) (below_more f m le) ∙ below_then f (m + 1) n (omega arith) ∙ ap (below f) e
-
-pub below_put_together : (f n : ℕ) → fold (with f) (none_of f) (range_with_len f (n - f)) ≡ below f n
-below_put_together f n =
-    let e : min (f + (n - f) - f) 8 ≡ min (n - f) 8 = omega arith in
-    ap (λ s. fold (with f) s (range_with_len f (n - f))) (below_none f f (omega arith))
-    ∙ below_then f f (n - f) (omega arith)
-    ∙ ap (λ (k : ℕ). record { members = first_places k }) e
+-- eight places, each of which is set where its number is below another
+pub below_by_place : (f n : ℕ) (m : List Bool) → length m ≡ 8 → ((i : ℕ) → i < 8 → get_or m i false ≡ ltb i (n - f)) → record { members = m } ≡ below f n
+below_by_place f n m long each =
+    let k : ℕ = min (n - f) 8 in
+    let few : k ≤ 8 = omega arith in
+    ap (λ (xs : List Bool). record { members = xs })
+    (ext_get_or false m (first_places k) (long ∙ sym (first_length k)) (λ i lt.
+    let small : i < 8 = omega (arith, long) in
+    each i small ∙ capped_test (n - f) i small ∙ sym (first_at k i few small)))
 
 -- the first member of a list is what a search finds
 pub first_found : (p : ℕ → Bool) (xs : List ℕ) → find p xs ≡ head_of (those p xs)

@@ -59,6 +59,6 @@ impl Plan {
     pub fn is_empty(&self) -> bool
         ensures { result ≡ is_empty self.now }
     {
-        self.setups.iter().all(|setup| *setup == NONE)
+        (1..9).all(|head| !self.names(head))
     }
 }

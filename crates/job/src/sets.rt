@@ -2,6 +2,8 @@
 ghost use Rattle.std.specs.Prelude.{◌≡◌};
 ghost use Rattle.job.specs.Sets.{none_of, place_of, has as has_number, put as put_number, with as with_number, without as without_number, below as numbers_below, only as only_number, lowest as lowest_of, highest as highest_of};
 
+use std::array::from_fn;
+
 // A set of some of the eight numbers from FIRST on: the number n is in it where `members[n - FIRST]` is set. Every other number is
 // in no set.
 #[derive(Clone, Copy)]
@@ -31,7 +33,10 @@ impl<const FIRST: u8> Set<FIRST> {
     pub fn below(end: u8) -> Set<FIRST>
         ensures { result ≡ numbers_below FIRST end }
     {
-        (FIRST..end).fold(Set::empty(), Set::with)
+        let count = end.saturating_sub(FIRST) as usize;
+        Set {
+            members: from_fn(|place| place < count),
+        }
     }
 
     // The set of one number; the empty one for a number that has no place.

@@ -23,14 +23,13 @@ module _ {S : Type 0} where
   answered false false x y e = absurd (let o : ◌≡◌ {A = ℕ} 0 1 = cc in omega arith)
 
 module _ {S : Type 0} {s : Operations S} (laws : Laws s) (costs : List S) (j : Job) (h i : ℕ) (q : Plan) (long : length q.setups ≡ 8) where
-  pub naming_answered : (more whole sum : S) → Ok more ≡ priced costs (may_ask_setup j h i q) (against s costs j h i q) → Ok whole ≡ priced costs (is_of_job j q) (plan_cost s costs j q) →
+  pub naming_answered : (more whole sum : S) → Ok more ≡ priced costs (may_ask_setup j h i q) (against s costs j h i q) → whole ≡ plan_cost s costs j q →
       sum ≡ s.join whole more → Ok sum ≡ priced costs (may_ask_setup j h i q) (plan_cost s costs j (name q h i))
-  naming_answered more whole sum asked priced_so joined_so =
+  naming_answered more whole sum asked whole_so joined_so =
       let a = answered (ltb (length costs) 1792) (may_ask_setup j h i q) more _ asked in
-      let w = answered (ltb (length costs) 1792) (is_of_job j q) whole _ priced_so in
       let parts = and_parts (ltb i (setups j h)) (not (named q h)) (and_parts (is_of_job j q) _ a.1).1 in
       let own : i < setups j h = ltb-true i (setups j h) parts.0 in
       let range : (1 ≤ h) × (h ≤ j.heads) = head_range j h (omega arith) in
       let small : i < 255 = omega (arith, setups_few j h) in
-      let is : sum ≡ plan_cost s costs j (name q h i) = rw (joined_so, w.2, a.2) (sym (naming_joins_costs laws costs j q h i long range.0 range.1 small (not-true _ parts.1))) in
+      let is : sum ≡ plan_cost s costs j (name q h i) = rw (joined_so, whole_so, a.2) (sym (naming_joins_costs laws costs j q h i long range.0 range.1 small (not-true _ parts.1))) in
       rw (a.0, a.1) (ap Ok is)

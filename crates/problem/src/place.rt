@@ -5,13 +5,15 @@ ghost use Rattle.problem.specs.Costs.{pair as pair_number, pair_of, place as pla
 // how many places a table of costs has: 28 pairs of 8 heads, 8 setups by 8
 pub const PLACES: usize = 1792;
 
+// how many pairs come before those of a head with the heads after it; looked up, since each cost that is read asks for it
+const BEFORE: [usize; 8] = [0, 7, 13, 18, 22, 25, 27, 28];
+
 fn pair_number(a: u8, b: u8) -> usize
     requires { (1 ≤ a) × ((a < b) × (b ≤ 8)) }
     ensures value { result ≡ pair_number a b }
     ensures within { result < 28 }
 {
-    let before = (a as usize - 1) * (16 - a as usize) / 2;
-    before + (b as usize - a as usize - 1)
+    BEFORE[a as usize - 1] + (b as usize - a as usize - 1)
 }
 
 // Puts a value into each of some places. Not by the slice's own `fill`, which clones: no law of a scale says what a clone of a cost is.

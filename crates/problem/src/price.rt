@@ -53,7 +53,7 @@ impl<'a, S: Scale> Prices<'a, S> {
     {
         // a loop: in a chain of `filter_map` and `fold` the closure within the closure would have to ask again what `between` asks
         let mut sum = S::nothing();
-        for g in from..=last {
+        for g in from..last + 1 {
             if let Some(k) = plan.setup(g) {
                 sum = sum.join(self.between(h, i, g, k));
             }
@@ -71,7 +71,9 @@ impl<'a, S: Scale> Prices<'a, S> {
         self.against_range(head, setup, plan, 1, self.job.heads())
     }
 
-    // The same as `Problem::bound` for input that is known to be good.
+    // The same as `Problem::bound` for input that is known to be good. Not inlined: heads are asked for bounds more than for all else,
+    // and within the whole run its sums would not stay in registers.
+    #[inline(never)]
     fn bound(&self, head: u8, plan: &Plan) -> S
         requires of_job { is_of_job self.now.job.now plan.now ≡ true }
         requires asked { (is_head self.now.job.now head ≡ true) × (named plan.now head ≡ false) }
@@ -90,7 +92,7 @@ impl<'a, S: Scale> Prices<'a, S> {
         // a loop for the same reason
         let mut sum = S::nothing();
         let last = self.job.heads();
-        for a in 1..=last {
+        for a in 1..last + 1 {
             if let Some(i) = plan.setup(a) {
                 sum = sum.join(self.against_range(a, i, plan, a + 1, last));
             }

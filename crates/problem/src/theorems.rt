@@ -5,13 +5,35 @@ ghost use Rattle.problem.specs.Costs.{against as against_named, plan_cost, price
 ghost use Rattle.problem.specs.Pruning.{NamingJoinsCosts, PruningIsSafe, ChildrenCover};
 ghost use Rattle.problem.specs.Weights.{ExpandingFits, RootsWeigh};
 
-use crate::price::Problem;
+use crate::price::{Prices, Problem};
 use job::job::Job;
 use job::plan::Plan;
 use job::refusal::Refusal;
 use scale::scale::Scale;
 
 impl<'a, S: Scale> Problem<'a, S> {
+    // The same as `cost_after_naming`, where what naming the head adds is known.
+    fn cost_after_adding(
+        &self,
+        head: u8,
+        setup: u8,
+        plan: Plan,
+        added: Result<S, Refusal>,
+    ) -> Result<S, Refusal>
+        requires { added ≡ priced self.now.costs.now (may_ask_setup self.now.job.now head setup plan) (against_named S.Scale.scale self.now.costs.now self.now.job.now head setup plan) }
+        ensures value { result ≡ priced self.now.costs.now (may_ask_setup self.now.job.now head setup plan) (plan_cost S.Scale.scale self.now.costs.now self.now.job.now (name plan head setup)) }
+        ensures naming { NamingJoinsCosts S.Scale.scale }
+        ensures pruning { PruningIsSafe S.Scale.scale }
+    {
+        let more = added?;
+        // an answer shows that all costs are there, so they are not counted again
+        let prices = Prices {
+            job: self.job,
+            costs: self.costs,
+        };
+        Ok(prices.plan_cost(&plan).join(more))
+    }
+
     // The cost of the plan with one more head named, by what naming it adds; refused as `against` is. And no completion of a plan
     // is cheaper than its cost joined with the bounds.
     pub fn cost_after_naming(&self, head: u8, setup: u8, plan: &Plan) -> Result<S, Refusal>
@@ -19,10 +41,7 @@ impl<'a, S: Scale> Problem<'a, S> {
         ensures naming { NamingJoinsCosts S.Scale.scale }
         ensures pruning { PruningIsSafe S.Scale.scale }
     {
-        // once read, the plan's setups are known to be eight
-        let _setups = plan.setups;
-        let more = self.against(head, setup, plan)?;
-        Ok(self.plan_cost(plan)?.join(more))
+        self.cost_after_adding(head, setup, *plan, self.against(head, setup, plan))
     }
 }
 

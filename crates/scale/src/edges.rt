@@ -2,6 +2,7 @@
 ghost use Rattle.std.specs.Prelude.{◌≡◌, length, Some};
 ghost use Rattle.scale.specs.MinutesModel.{minutes as minutes_scale};
 ghost use Rattle.scale.specs.ClashesModel.{clashes as clashes_scale};
+ghost use Rattle.scale.specs.Operations.{AtMost};
 ghost use Rattle.scale.specs.Edges.{NeverStays, ReadsBack, MinutesStop, ClashesStop};
 
 use crate::clashes::Clashes;
@@ -44,14 +45,22 @@ pub fn written_and_read<S: Scale>(cost: S) -> Option<S>
     S::read(bytes)
 }
 
+// Joins two costs that are known to come to no less than never.
+fn join_to_never<S: Scale>(cost: S, other: S) -> S
+    requires { AtMost S.Scale.scale S.Scale.scale.never (S.Scale.scale.join cost other) }
+    ensures { result ≡ S.Scale.scale.never }
+{
+    cost.join(other)
+}
+
 // 999,999,999 minutes joined with 1 are never, and so are 999 clashes joined with 1.
 pub fn sums_past_the_most() -> Option<(Minutes, Clashes)>
     ensures value { result ≡ Some (minutes_scale.never, clashes_scale.never) }
     ensures minutes { MinutesStop }
     ensures clashes { ClashesStop }
 {
-    let minutes = Minutes::new(999_999_999)?.join(Minutes::new(1)?);
-    let clashes = Clashes::new(999, 0)?.join(Clashes::new(1, 0)?);
+    let minutes = join_to_never(Minutes::new(999_999_999)?, Minutes::new(1)?);
+    let clashes = join_to_never(Clashes::new(999, 0)?, Clashes::new(1, 0)?);
     Some((minutes, clashes))
 }
 

@@ -69,9 +69,7 @@ impl Job {
     pub fn is_complete(&self, plan: &Plan) -> bool
         ensures { result ≡ is_complete self.now plan.now }
     {
-        plan.setups[..self.heads as usize]
-            .iter()
-            .all(|setup| *setup < NONE)
+        (1..self.heads + 1).all(|head| plan.names(head))
     }
 
     // Whether the plan names no head and no setup that the job lacks.

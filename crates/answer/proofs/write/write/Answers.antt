@@ -11,7 +11,7 @@ put_count-requires g c =
 
 pub returns : goal.returns
 returns g c =
-    let done = answer_written g.met.S.Scale.coded c.args.ended c.heads.result c.count.result c.outcome.result c.heads.ensures c.count.ensures c.outcome.ensures c.put_outcome.ensures c.put_count.ensures in
+    let done = answer_written g.met.S.Scale.coded c.args.ended c.heads.result _ c.outcome.result c.heads.ensures (omega arith) c.outcome.ensures c.put_outcome.ensures c.put_count.ensures in
     let all = written_front c.new-lines.ensures.front c.new-lines.ensures.memory done in
     let same = done.same_memory ∙ c.new-lines.ensures.same_memory in
     (omega arith, c.end.ensures ∙ all.0, search (rules, same, all.1))

@@ -1,12 +1,13 @@
 use Rattle.std.proofs.Common.{not, ◌||◌, ◌∙◌, refl, rules}
 use borrow.Author.Tests.{tests}
+use Rattle.std.proofs.lemmas.Iterator.{YieldsList-from_range}
 use Rattle.std.proofs.lemmas.Iterator.Search.{all_from_yields_List}
 use Rattle.job.specs.Plans.{is_head}
 use Rattle.link.specs.HeadSets.{has_head}
-use Rattle.head.proofs.Ranges.{YieldsList-from_inclusive, every_listed}
+use Rattle.job.proofs.Lists.{every_listed}
 use Rattle.head.proofs.stray.has_own_heads.Goals as goal
 
 pub returns : goal.returns
 returns c =
-    all_from_yields_List (λ h. not (has_head c.args.heard.now h) || is_head c.args.job.now h) _ _ c.all.result c.all.ensures.ran (YieldsList-from_inclusive 1 8 8 refl c.new.ensures.start c.new.ensures.end c.new.ensures.exhausted refl) (λ x b q k. search (rules, tests))
+    all_from_yields_List (λ h. not (has_head c.args.heard.now h) || is_head c.args.job.now h) _ _ c.all.result c.all.ensures.ran (YieldsList-from_range 1 9 8 refl refl) (λ x b q k. search (rules, tests))
     ∙ every_listed _ _

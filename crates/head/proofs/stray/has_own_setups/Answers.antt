@@ -4,7 +4,7 @@ use Rattle.std.proofs.lemmas.Iterator.{YieldsList-from_range}
 use Rattle.std.proofs.lemmas.Iterator.Search.{all_from_yields_List}
 use Rattle.job.specs.Plans.{is_setup}
 use Rattle.head.specs.SetupSets.{has_setup}
-use Rattle.head.proofs.Ranges.{every_listed}
+use Rattle.job.proofs.Lists.{every_listed}
 use Rattle.head.proofs.stray.has_own_setups.Goals as goal
 
 pub returns : goal.returns

@@ -1,11 +1,8 @@
-use Rattle.std.proofs.Common.{refl, ◌∙◌, rules}
-use Rattle.std.proofs.lemmas.Iterator.{YieldsList-from_range}
-use Rattle.std.proofs.lemmas.Iterator.Consumers.{fold_from_yields_List}
-use Rattle.job.specs.Sets.{with}
-use Rattle.job.proofs.Members.{below_put_together}
+use Rattle.std.proofs.Common.{false, rules}
+use Rattle.std.proofs.lemmas.Bool.Decides.{nat_tests}
+use Rattle.job.proofs.Members.{below_by_place}
 use Rattle.job.proofs.sets.Set.below.Goals as goal
 
 pub returns : goal.returns
 returns g c =
-    let f = g.row.FIRST in
-    fold_from_yields_List _ (with f) c.empty.result c.fold.result c.fold.ensures.ran (YieldsList-from_range f c.args.end _ refl refl) (λ a x b q k. search rules) ∙ rw c.empty.ensures (below_put_together f c.args.end)
+    below_by_place g.row.FIRST c.args.end c.from_fn.result c.from_fn.ensures.items.long (λ i lt. let called = c.from_fn.ensures.items.at i false lt in search (rules, nat_tests))

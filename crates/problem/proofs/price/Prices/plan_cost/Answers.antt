@@ -1,8 +1,5 @@
-use Rattle.std.proofs.Common.{◌≡◌, ℕ, ◌+◌, ◌-◌, ◌<◌, sym, ◌∙◌, subst, arith}
-use Rattle.std.specs.List.{range_with_len}
-use Rattle.job.specs.Lists.{those}
-use Rattle.job.specs.Plans.{named}
-use Rattle.problem.specs.Costs.{Comparable, as_named, joined_pairs, plan_cost}
+use Rattle.std.proofs.Common.{ℕ, ◌+◌, sym, ◌∙◌, subst, arith}
+use Rattle.problem.specs.Costs.{Comparable}
 use Rattle.problem.proofs.Naming.{setups_few}
 use Rattle.problem.proofs.Walks.{comparable, some_named, named_of_job, pairs_step, pairs_skip, pairs_done}
 use Rattle.problem.proofs.price.Prices.plan_cost.Goals as goal
@@ -23,30 +20,15 @@ pub loop-a-preserved : goal.loop-a-preserved
 loop-a-preserved g c =
     let laws = g.met.S.Scale.lawful in
     let end = c.heads-last.result + 1 in
-    let lt : c.loop-a.a < end = omega arith in
     elim c.match-setup.branch [
       | in-Some w ↦
           let is = w.sum-is ∙ w.join-sum.ensures in
           let cost = w.against_range.ensures in
-          simp (is, cost) (pairs_step laws c.args.self.now.costs.now c.args.plan.now c.loop-a.a end c.loop-a.sum _ c.loop-a.invariant w.in-Some.i lt (sym c.setup.ensures ∙ w.in-Some.is))
+          simp (is, cost) (pairs_step laws c.args.self.now.costs.now c.args.plan.now c.loop-a.a end c.loop-a.sum _ c.loop-a.invariant w.in-Some.i c.loop-a-test.true (sym c.setup.ensures ∙ w.in-Some.is))
       | in_default w ↦
-          simp w.sum-is (pairs_skip laws c.args.self.now.costs.now c.args.plan.now c.loop-a.a end c.loop-a.sum _ c.loop-a.invariant lt (sym c.setup.ensures ∙ w.in_default.is))
+          simp w.sum-is (pairs_skip laws c.args.self.now.costs.now c.args.plan.now c.loop-a.a end c.loop-a.sum _ c.loop-a.invariant c.loop-a-test.true (sym c.setup.ensures ∙ w.in_default.is))
     ]
 
-pub returns-after-setup : goal.returns-after-setup
-returns-after-setup g c =
-    let s = g.S.Scale.scale in
-    let laws = g.met.S.Scale.lawful in
-    let costs = c.args.self.now.costs.now in
-    let q = c.args.plan.now in
-    let end = c.heads-last.result + 1 in
-    let lt : c.loop-a.a < end = omega arith in
-    let all : s.join c.match-setup.sum (joined_pairs s (as_named s costs q) (those (named q) (range_with_len (c.loop-a.a + 1) (end - (c.loop-a.a + 1))))) ≡ plan_cost s costs c.args.self.now.job.now q =
-    elim c.match-setup.branch [
-      | in-Some w ↦
-          let is = w.sum-is ∙ w.join-sum.ensures in
-          let cost = w.against_range.ensures in
-          simp (is, cost) (pairs_step laws costs q c.loop-a.a end c.loop-a.sum _ c.loop-a.invariant w.in-Some.i lt (sym c.setup.ensures ∙ w.in-Some.is))
-      | in_default w ↦ simp w.sum-is (pairs_skip laws costs q c.loop-a.a end c.loop-a.sum _ c.loop-a.invariant lt (sym c.setup.ensures ∙ w.in_default.is))
-    ] in
-    pairs_done laws costs q (c.loop-a.a + 1) end c.match-setup.sum _ all (omega arith)
+pub returns : goal.returns
+returns g c =
+    pairs_done g.met.S.Scale.lawful c.args.self.now.costs.now c.args.plan.now c.loop-a.a (c.heads-last.result + 1) c.loop-a.sum _ c.loop-a.invariant c.loop-a-test.false
