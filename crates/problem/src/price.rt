@@ -17,7 +17,7 @@ pub struct Problem<'a, S> {
     pub costs: &'a [S],
 }
 
-// The same, where all costs are known to be there: `Problem::prices` makes it.
+// The same, where all costs are known to be there: `Problem::prices` makes it, and `cost_after_adding` of an answer that shows it.
 #[derive(Drop)]
 pub struct Prices<'a, S> {
     pub job: &'a Job,
@@ -51,7 +51,8 @@ impl<'a, S: Scale> Prices<'a, S> {
         requires { Comparable plan.now h i from last }
         ensures { result ≡ against_those S.Scale.scale self.now.costs.now (range_with_len from (last + 1 - from)) h i plan.now }
     {
-        // a loop: in a chain of `filter_map` and `fold` the closure within the closure would have to ask again what `between` asks
+        // a loop: in a chain of `filter_map` and `fold` the closure within the closure would have to ask again what `between` asks; and up
+        // to `last + 1`, since an inclusive range tests its end twice a turn
         let mut sum = S::nothing();
         for g in from..last + 1 {
             if let Some(k) = plan.setup(g) {
@@ -89,7 +90,7 @@ impl<'a, S: Scale> Prices<'a, S> {
         requires { is_of_job self.now.job.now plan.now ≡ true }
         ensures { result ≡ plan_cost S.Scale.scale self.now.costs.now self.now.job.now plan.now }
     {
-        // a loop for the same reason
+        // a loop for the same reasons
         let mut sum = S::nothing();
         let last = self.job.heads();
         for a in 1..last + 1 {

@@ -21,7 +21,7 @@ fn complain(rt: &HostRuntime, name: &str, answer: &str, expected: &str) -> io::R
 }
 
 fn compared(rt: &HostRuntime, name: &str, expected: &str, text: &str) -> anyhow::Result<bool> {
-    let sheet = expanded(rt.alloc(), text.as_bytes())?;
+    let sheet = expanded(rt.alloc(), text)?;
     let answer = answered(rt.alloc(), sheet.as_slice())?;
     if answer.as_str() == expected {
         println!(rt; "{name}: {answer}")?;
