@@ -35,7 +35,8 @@ impl<'a, M: Copy, const NEWEST: bool> Link<M> for Row<'a, M, NEWEST> {
 
     ghost room = { row_room };
 
-    // `same_refl`: where nothing is added the bag is the same, so a branch that refuses is judged by the count alone
+    // Nothing is refused here itself. Where a must-fail edit does so, `same_refl` says that the bag stays, so that the refusal's number
+    // and the count are judged.
     #[tactic(auto, using(crate::proofs::Bags::same_refl))]
     fn post(&mut self, message: M) -> Result<(), Refusal>
         ensures meaning { Posted message (row_limit self.old) (row_waiting self.old) result (row_limit self.new) (row_waiting self.new) }

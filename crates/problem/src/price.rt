@@ -17,7 +17,7 @@ pub struct Problem<'a, S> {
     pub costs: &'a [S],
 }
 
-// The same, where all costs are known to be there: `Problem::prices` makes it, and `cost_after_adding` of an answer that shows it.
+// The same, where all costs are known to be there. `Problem::prices` makes it, and `cost_after_adding` where an answer shows that they are.
 #[derive(Drop)]
 pub struct Prices<'a, S> {
     pub job: &'a Job,

@@ -5,8 +5,8 @@ ghost use Rattle.std.specs.Str.Iter.{bytes_rest};
 use std::alloc::{AllocError, Global};
 use std::str::Bytes;
 
-// Reads how often a bracket repeats it, up to the *: by the low four bits of each byte, so any byte counts as some digit. None where no *
-// comes.
+// Reads how often a bracket repeats its text, up to the *: by the low four bits of each byte, so any byte counts as some digit. None where
+// no * comes.
 fn read_times(rest: &mut Bytes) -> Option<usize>
     ensures { length (bytes_rest rest.new) ≤ length (bytes_rest rest.old) }
 {
@@ -22,7 +22,7 @@ fn read_times(rest: &mut Bytes) -> Option<usize>
     None
 }
 
-// Reads what a bracket repeats, and says whether it ends; `~` stands for itself there.
+// Reads the text that a bracket repeats, and says whether the bracket ends; `~` stands for itself there.
 fn read_repeated(rest: &mut Bytes, repeated: &mut Vec<u8>) -> Result<bool, AllocError>
     ensures { length (bytes_rest rest.new) ≤ length (bytes_rest rest.old) }
 {
@@ -36,12 +36,13 @@ fn read_repeated(rest: &mut Bytes, repeated: &mut Vec<u8>) -> Result<bool, Alloc
     Ok(false)
 }
 
-// The bytes that the short form stands for. Nothing is refused: a bracket that does not end adds nothing, as does all after it. It is not
+// The bytes that the short form stands for. Nothing is refused: a bracket that does not end adds nothing, as does all after it. Not
 // inlined, since beside the lines of the table its loops lack registers: one byte that is repeated often then takes a fifth more time.
 #[inline(never)]
 pub(crate) fn expanded(heap: Global, short: &str) -> Result<Vec<u8>, AllocError> {
     let mut bytes = Vec::new(heap);
     let mut repeated = Vec::new(heap);
+    // one iterator for all parts: a bracket reads on where the text before it stopped
     let mut rest = short.bytes();
     while let Some(byte) = rest.next() {
         match byte {
